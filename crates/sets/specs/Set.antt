@@ -1,0 +1,48 @@
+-- A word as a set of controllers: controller i is a member where bit i of the word is set. Nothing here has a size.
+use Prim.Native.Nat.{ℕ, zero, suc, _+_, _-_, _*_, _/_, _%_, _^_}
+use mathlib.Core.Bool.{Bool, true, false, cond, not, _&&_, _||_}
+use lib.Dec.{eqb, ltb}
+
+-- whether controller i is a member
+unfoldable pub has : ℕ → ℕ → Bool
+has w i = eqb (w / 2 ^ i % 2) 1
+
+-- the set with controller i, and without it
+unfoldable pub with : ℕ → ℕ → ℕ
+with w i = cond (has w i) w (w + 2 ^ i)
+
+unfoldable pub without : ℕ → ℕ → ℕ
+without w i = cond (has w i) (w - 2 ^ i) w
+
+-- all controllers below n and no other
+unfoldable pub allBelow : ℕ → ℕ
+allBelow n = 2 ^ n - 1
+
+-- the members below n alone
+unfoldable pub cut : ℕ → ℕ → ℕ
+cut w n = w % 2 ^ n
+
+-- the set with all controllers below n; members of n and above stay as they are
+unfoldable pub withAll : ℕ → ℕ → ℕ
+withAll w n = (w - cut w n) + allBelow n
+
+-- whether a test holds of every number below n
+unfoldable pub every : (ℕ → Bool) → ℕ → Bool
+every p zero = true
+every p (suc n) = every p n && p n
+
+-- whether every member of u below n is a member of w
+unfoldable pub within : ℕ → ℕ → ℕ → Bool
+within u w n = every (λ i. not (has u i) || has w i) n
+
+-- how many numbers below n pass a test, and how many members a set has below n
+unfoldable pub tally : (ℕ → Bool) → ℕ → ℕ
+tally p zero = 0
+tally p (suc n) = tally p n + cond (p n) 1 0
+
+unfoldable pub countBelow : ℕ → ℕ → ℕ
+countBelow w n = tally (has w) n
+
+-- A u16 has room for sixteen controllers; one that has no bit there cannot join.
+unfoldable pub join : ℕ → ℕ → ℕ
+join w i = cond (ltb i 16) (with w i) w
