@@ -1,0 +1,79 @@
+-- Lists of rules: 0 is given back just where every rule holds, and a list may be tested part by part.
+use mathlib.Core.Path.{_≡_, refl, sym, ap, _∙_, subst}
+use mathlib.Core.Bool.{Bool, true, false, cond, false≢true}
+use mathlib.Core.List.{List, [], _∷_, _++_}
+use mathlib.Core.Option.{Option, none, some}
+use Prim.Native.Nat.{ℕ, _<_}
+use native.Mathlib.Omega.{arith}
+use lib.Dec.{T, ltb, ltb→lt, eqb}
+use borrow.Author.Tests.{eq-eqb, ne-eqb}
+use Rattle.group.specs.Layout.{Layout, words}
+use Rattle.group.specs.Fit.{Fit, fit}
+use Rattle.group.specs.Opening.{answer}
+use Rattle.group.specs.Step.{Step, broadcast, send, receive, deliver, crash, detect, lose, unused, asked}
+use Rattle.group.specs.Refusals.{Rule, _else_, firstBroken, Holds, rules, refusal}
+use Rattle.group.specs.Promises.{Allowed, askedRefusal, askedAfter, refusalOf, stepOf}
+
+-- ---- a choice by a test
+
+module _ {A : Type 0} where
+  pub pass : {t : Bool} {r x : A} (k : A) → t ≡ true → r ≡ x → cond t r k ≡ x
+  pass {r = r} {x = x} k e h = subst (λ u. cond u r k ≡ x) (sym e) h
+
+  pub stop : {t : Bool} {k x : A} (r : A) → t ≡ false → k ≡ x → cond t r k ≡ x
+  stop {k = k} {x = x} r e h = subst (λ u. cond u r k ≡ x) (sym e) h
+
+-- ---- a list of rules
+
+-- no rule's number is 0, so that 0 says that all hold
+abbrev pub Numbered : List Rule → Type 0
+Numbered [] = Unit {0}
+Numbered (r ∷ rs) = T (ltb 0 (r .number)) × Numbered rs
+
+pub all-hold : (rs : List Rule) → Numbered rs → firstBroken rs ≡ 0 → Holds rs
+all-hold [] k e = tt
+all-hold (r ∷ rs) k e = go (r .holds) refl e (all-hold rs (k .1))
+  where
+    go : (t : Bool) → r .holds ≡ t → cond t (firstBroken rs) (r .number) ≡ 0
+        → (firstBroken rs ≡ 0 → Holds rs) → (r .holds ≡ true) × Holds rs
+    go true q z h = (q, h z)
+    go false q z h = absurd (omega (arith, ltb→lt 0 (r .number) (k .0)))
+
+pub none-broken : (rs : List Rule) → Holds rs → firstBroken rs ≡ 0
+none-broken [] h = refl
+none-broken (r ∷ rs) h = pass (r .number) (h .0) (none-broken rs (h .1))
+
+-- a first part that breaks decides; one that does not leaves it to the rest
+pub first-decides : (rs ss : List Rule) → (firstBroken rs ≡ 0 → ⊥) → firstBroken (rs ++ ss) ≡ firstBroken rs
+first-decides [] ss h = absurd (h refl)
+first-decides (r ∷ rs) ss h = go (r .holds) refl (first-decides rs ss)
+  where
+    go : (t : Bool) → r .holds ≡ t → ((firstBroken rs ≡ 0 → ⊥) → firstBroken (rs ++ ss) ≡ firstBroken rs)
+        → cond t (firstBroken (rs ++ ss)) (r .number) ≡ cond t (firstBroken rs) (r .number)
+    go true q k = k (λ z. h (pass (r .number) q z))
+    go false q k = refl
+
+pub rest-decides : (rs ss : List Rule) → Numbered rs → firstBroken rs ≡ 0 → firstBroken (rs ++ ss) ≡ firstBroken ss
+rest-decides rs ss k e = go rs (all-hold rs k e)
+  where
+    go : (rs : List Rule) → Holds rs → firstBroken (rs ++ ss) ≡ firstBroken ss
+    go [] h = refl
+    go (r ∷ rs) h = pass (r .number) (h .0) (go rs (h .1))
+
+-- ---- a step's rules
+
+pub rules-numbered : (L : Layout) (b : List ℕ) (s : Step) → Numbered (rules L (words L b) s)
+rules-numbered L b (broadcast who s v) = (tt, (tt, (tt, tt)))
+rules-numbered L b (send from to m) = (tt, (tt, (tt, (tt, (tt, tt)))))
+rules-numbered L b (receive i from m) = (tt, (tt, (tt, (tt, (tt, tt)))))
+rules-numbered L b (deliver i m) = (tt, (tt, (tt, (tt, (tt, (tt, (tt, tt)))))))
+rules-numbered L b (crash who) = (tt, (tt, tt))
+rules-numbered L b (detect i j) = (tt, (tt, (tt, (tt, (tt, (tt, tt))))))
+rules-numbered L b (lose from to m) = (tt, (tt, (tt, (tt, (tt, tt)))))
+
+-- a step that nothing refuses in a fit bank is allowed, and an allowed one is refused by nothing
+pub free-step : (L : Layout) (b : List ℕ) (s : Step) → Fit L b → refusal L (words L b) s ≡ 0 → Allowed L b s
+free-step L b s f e = record { sound = f; free = all-hold (rules L (words L b) s) (rules-numbered L b s) e }
+
+pub allowed-free : (L : Layout) (b : List ℕ) (s : Step) → Allowed L b s → refusal L (words L b) s ≡ 0
+allowed-free L b s a = none-broken (rules L (words L b) s) (a .free)

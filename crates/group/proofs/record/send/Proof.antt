@@ -1,0 +1,72 @@
+-- send: the two words are read before either is written, so the stores are the definition's writes.
+use borrow.Author.Needs.{needs}
+use Prim.Native.Nat.{ℕ, _+_, _-_, _*_, _<_, _≤_}
+use native.Mathlib.Omega.{arith}
+use lib.ListN.{length-set}
+use mathlib.Core.Path.{_≡_, refl, sym, ap, ap₂, _∙_}
+use Rattle.sets.proofs.Members.{join-with}
+use Rattle.group.proofs.record.send.Statement.{statement}
+use Rattle.group.proofs.record.send.Tie as tie
+
+add-u : tie.Need-add-u
+add-u c = search needs
+
+add-f : tie.Need-add-f
+add-f c = search needs
+
+mul-unsent : tie.Need-mul-unsent
+mul-unsent c = search needs
+
+slice-read-unsent : tie.Need-slice-read-unsent
+slice-read-unsent c = search needs
+
+mul-in-flight : tie.Need-mul-in-flight
+mul-in-flight c = search needs
+
+slice-read-in-flight : tie.Need-slice-read-in-flight
+slice-read-in-flight c = search needs
+
+without-requires : tie.Need-without-requires
+without-requires c κs = search needs
+
+mul-record : tie.Need-mul-record
+mul-record c = search needs
+
+slice-write-record : tie.Need-slice-write-record
+slice-write-record c = search needs
+
+with-requires : tie.Need-with-requires
+with-requires c κs = search needs
+
+mul-record-2 : tie.Need-mul-record-2
+mul-record-2 c = search needs
+
+slice-write-record-2 : tie.Need-slice-write-record-2
+slice-write-record-2 c = simp length-set (omega arith)
+
+same-length : tie.Need-same-length
+same-length c = search needs
+
+returns : tie.Need-returns
+returns c =
+    let h : (c .before .before .before .before .before .args .from) < 16 = omega arith in
+    rw (c .before .without .ensures, c .with .ensures, join-with _ _ h)
+
+pub send-spec : {M : Type 1} → statement M
+send-spec =
+    tie.close
+    (tie.spec
+    add-u
+    add-f
+    mul-unsent
+    slice-read-unsent
+    mul-in-flight
+    slice-read-in-flight
+    without-requires
+    mul-record
+    slice-write-record
+    with-requires
+    mul-record-2
+    slice-write-record-2
+    same-length
+    returns)

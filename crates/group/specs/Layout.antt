@@ -1,0 +1,106 @@
+-- Where each word stands. A layout is two numbers; every address follows from them as regions laid one after another.
+use Prim.Native.Nat.{ℕ, zero, suc, _+_, _*_, _<_}
+use mathlib.Core.List.{List, [], _∷_, _++_, map}
+use lib.ListN.{getD, set}
+use Rattle.group.specs.Place.{Field, Place, Words, Record, Write, _≔_}
+use Rattle.group.specs.Place.{sender, stamp, value, held, delivered, acked, unsent, inFlight}
+use Rattle.group.specs.Place.{members, mode, count, up, view, logLength, log, message}
+
+-- for how many controllers and how many messages a bank has room
+pub record Layout : Type 0 where
+  pub controllers : ℕ
+  pub messages : ℕ
+
+-- the bank of the paper
+abbrev pub paper : Layout
+paper = record { controllers = 16; messages = 32 }
+
+-- where region r begins, given how many words each region has
+abbrev pub start : ℕ → List ℕ → ℕ
+start zero widths = 0
+start (suc r) [] = 0
+start (suc r) (w ∷ widths) = w + start r widths
+
+-- ---- a record: eight regions
+
+abbrev pub recordWidths : Layout → List ℕ
+recordWidths L = 1 ∷ 1 ∷ 1 ∷ 1 ∷ 1 ∷ L .controllers ∷ L .controllers ∷ L .controllers ∷ []
+
+-- where each word stands in its record
+abbrev pub offset : Layout → Field → ℕ
+offset L sender = start 0 (recordWidths L)
+offset L stamp = start 1 (recordWidths L)
+offset L value = start 2 (recordWidths L)
+offset L held = start 3 (recordWidths L)
+offset L delivered = start 4 (recordWidths L)
+offset L (acked i) = start 5 (recordWidths L) + i
+offset L (unsent i) = start 6 (recordWidths L) + i
+offset L (inFlight i) = start 7 (recordWidths L) + i
+
+abbrev pub recordSize : Layout → ℕ
+recordSize L = start 8 (recordWidths L)
+
+-- k numbers from i on
+abbrev pub upFrom : ℕ → ℕ → List ℕ
+upFrom i zero = []
+upFrom i (suc k) = i ∷ upFrom (suc i) k
+
+-- all words of a record, in the order in which they stand
+unfoldable pub fields : Layout → List Field
+fields L =
+    sender
+    ∷ stamp
+    ∷ value
+    ∷ held
+    ∷ delivered
+    ∷ map acked (upFrom 0 (L .controllers))
+    ++ (map unsent (upFrom 0 (L .controllers)) ++ map inFlight (upFrom 0 (L .controllers)))
+
+-- ---- a bank: eight regions, of which the last two are tables
+
+abbrev pub bankWidths : Layout → List ℕ
+bankWidths L =
+    1
+    ∷ 1
+    ∷ 1
+    ∷ 1
+    ∷ L .controllers
+    ∷ L .controllers
+    ∷ L .controllers * L .messages
+    ∷ L .messages * recordSize L
+    ∷ []
+
+-- where message m's record begins, and where each word stands in the bank
+abbrev pub recordAt : Layout → ℕ → ℕ
+recordAt L m = start 7 (bankWidths L) + m * recordSize L
+
+abbrev pub address : Layout → Place → ℕ
+address L members = start 0 (bankWidths L)
+address L mode = start 1 (bankWidths L)
+address L count = start 2 (bankWidths L)
+address L up = start 3 (bankWidths L)
+address L (view i) = start 4 (bankWidths L) + i
+address L (logLength i) = start 5 (bankWidths L) + i
+address L (log i k) = (start 6 (bankWidths L) + i * L .messages) + k
+address L (message m f) = recordAt L m + offset L f
+
+-- how many words a bank has: 2,244 for the paper's
+abbrev pub size : Layout → ℕ
+size L = start 8 (bankWidths L)
+
+-- ---- reading and writing by name, where `at` says the place of each name
+
+module _ {A : Type 0} (at : A → ℕ) where
+  abbrev pub look : List ℕ → A → ℕ
+  look b p = getD b (at p) 0
+
+  abbrev pub puts : List ℕ → List (Write A) → List ℕ
+  puts b [] = b
+  puts b (x ∷ xs) = puts (set b (at (x .at)) (x .word)) xs
+
+abbrev pub words : Layout → List ℕ → Words
+words L b = look (address L) b
+
+-- writes to one record are writes to the bank
+abbrev pub inRecord : ℕ → List (Write Field) → List (Write Place)
+inRecord m xs = map (λ (x : Write Field). message m (x .at) ≔ x .word) xs

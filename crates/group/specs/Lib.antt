@@ -1,0 +1,9 @@
+pub mod Place
+pub mod Layout
+pub mod Numbers
+pub mod Fit
+pub mod Opening
+pub mod Step
+pub mod Refusals
+pub mod Writes
+pub mod Promises

@@ -1,0 +1,48 @@
+// The group's rules: opening a bank, what refuses a step, and one step, over a run of words that the caller lends.
+// Nothing is kept between calls. What is right stands in specs/, what each call promises in specs/Promises.antt.
+mod bank;
+mod record;
+mod refusals;
+mod steps;
+
+pub use bank::Bank;
+ghost use Rattle.group.specs.Promises.{OpenPromise, RefusalPromise, StepPromise};
+
+// Opens a group of n controllers: the whole bank is written anew.
+pub fn open(bank: &mut [u16], n: u16, mode: u16) -> u16
+    ensures { λ r. ⌜ OpenPromise (now (bank .entry)) n mode r (now (bank .exit)) ⌝ }
+{
+    if bank.len() != Bank::WORDS {
+        return 1;
+    }
+    if !bank::is_size(n) {
+        return 11;
+    }
+    if !bank::is_mode(mode) {
+        return 12;
+    }
+    bank::write_opening(bank, n, mode);
+    0
+}
+
+// What refuses a step, or 0; nothing is changed.
+pub fn refusal(bank: &[u16], kind: u16, a: u16, b: u16, c: u16) -> u16
+    ensures { λ r. ⌜ RefusalPromise (now (bank .entry)) kind a b c r ⌝ }
+{
+    if !bank::fit(bank) {
+        return 1;
+    }
+    refusals::of_asked(bank, kind, a, b, c)
+}
+
+// One step: what refuses it, or 0; the bank is changed only where nothing does.
+pub fn step(bank: &mut [u16], kind: u16, a: u16, b: u16, c: u16) -> u16
+    ensures { λ r. ⌜ StepPromise (now (bank .entry)) kind a b c r (now (bank .exit)) ⌝ }
+{
+    let r = refusal(bank, kind, a, b, c);
+    if r != 0 {
+        return r;
+    }
+    steps::apply(bank, kind, a, b, c);
+    0
+}

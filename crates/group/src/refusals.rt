@@ -1,0 +1,243 @@
+// What refuses each step of a fit bank: the lowest number that applies, or 0. Reads the bank, writes nothing.
+ghost use mathlib.Core.Path.{_≡_};
+ghost use mathlib.Core.List.{[], _∷_};
+ghost use mathlib.Core.Bool.{not};
+ghost use Prim.Native.Nat.{_<_};
+ghost use lib.Dec.{ltb};
+ghost use Rattle.sets.specs.Set.{has};
+ghost use Rattle.group.specs.Place.{members, count};
+ghost use Rattle.group.specs.Layout.{paper, words};
+ghost use Rattle.group.specs.Fit.{Fit};
+ghost use Rattle.group.specs.Step.{asked, broadcast, send, receive, deliver, crash, detect, lose};
+ghost use Rattle.group.specs.Refusals;
+ghost use Rattle.group.specs.Refusals.{_else_, firstBroken, actor, mayDeliver};
+ghost use Rattle.group.specs.Promises.{askedRefusal};
+use crate::Bank;
+use crate::bank::record_at;
+
+// A controller that acts is there and up.
+fn actor(bank: &[u16], i: u16) -> u16
+    requires { ⌜ Fit paper (now bank) ⌝ }
+    ensures { λ r. ⌜ r ≡ firstBroken (Refusals.actor (words paper (now (bank .entry))) i) ⌝ }
+{
+    if i >= bank[Bank::MEMBERS] {
+        return 3;
+    }
+    if !sets::has(bank[Bank::UP], i) {
+        return 6;
+    }
+    0
+}
+
+// Two controllers and a message are there.
+fn copy(bank: &[u16], i: u16, j: u16, m: u16) -> u16
+    requires { ⌜ Fit paper (now bank) ⌝ }
+    ensures { λ r. ⌜ r ≡ firstBroken (Refusals.copy (words paper (now (bank .entry))) i j m) ⌝ }
+{
+    let n = bank[Bank::MEMBERS];
+    if i >= n {
+        return 3;
+    }
+    if j >= n {
+        return 3;
+    }
+    if m >= bank[Bank::COUNT] {
+        return 4;
+    }
+    0
+}
+
+// The acting controller i is up, and j is in the set that the step takes it from.
+fn moves(up: u16, i: u16, set: u16, j: u16) -> u16
+    ensures { λ r. ⌜ r ≡ firstBroken (has up i else 6 ∷ has set j else 8 ∷ []) ⌝ }
+{
+    if !sets::has(up, i) {
+        return 6;
+    }
+    if !sets::has(set, j) {
+        return 8;
+    }
+    0
+}
+
+fn of_broadcast(bank: &[u16], who: u16, stamp: u16, value: u16) -> u16
+    requires { ⌜ Fit paper (now bank) ⌝ }
+    ensures { λ r. ⌜ r ≡ Refusals.refusal paper (words paper (now (bank .entry))) (broadcast who stamp value) ⌝ }
+{
+    let r = actor(bank, who);
+    if r != 0 {
+        return r;
+    }
+    if bank[Bank::COUNT] >= Bank::MESSAGES {
+        return 7;
+    }
+    0
+}
+
+fn of_send(bank: &[u16], from: u16, to: u16, m: u16) -> u16
+    requires { ⌜ Fit paper (now bank) ⌝ }
+    ensures { λ r. ⌜ r ≡ Refusals.refusal paper (words paper (now (bank .entry))) (send from to m) ⌝ }
+{
+    let r = copy(bank, from, to, m);
+    if r != 0 {
+        return r;
+    }
+    let unsent = bank[record_at(m) + (Bank::UNSENT + from as usize)];
+    moves(bank[Bank::UP], from, unsent, to)
+}
+
+fn of_receive(bank: &[u16], i: u16, from: u16, m: u16) -> u16
+    requires { ⌜ Fit paper (now bank) ⌝ }
+    ensures { λ r. ⌜ r ≡ Refusals.refusal paper (words paper (now (bank .entry))) (receive i from m) ⌝ }
+{
+    let r = copy(bank, i, from, m);
+    if r != 0 {
+        return r;
+    }
+    let in_flight = bank[record_at(m) + (Bank::IN_FLIGHT + i as usize)];
+    moves(bank[Bank::UP], i, in_flight, from)
+}
+
+// The mode's test: who has acked is enough.
+fn may_deliver(bank: &[u16], i: u16, m: u16) -> bool
+    requires { ⌜ Fit paper (now bank) ⌝ }
+    requires { ⌜ (i < words paper (now bank) members) × (m < words paper (now bank) count) ⌝ }
+    ensures { λ r. ⌜ r ≡ mayDeliver (words paper (now (bank .entry))) i m ⌝ }
+{
+    let n = bank[Bank::MEMBERS];
+    let acked = bank[record_at(m) + (Bank::ACKED + i as usize)];
+    if bank[Bank::MODE] == 1 {
+        return sets::within(bank[Bank::VIEWS + i as usize], acked, n);
+    }
+    (n as u32) < 2 * sets::count_below(acked, n)
+}
+
+// The last tests of a delivery: not done yet, and room in the log.
+fn undelivered(delivered: u16, i: u16, length: u16, count: u16) -> u16
+    ensures { λ r. ⌜ r ≡ firstBroken (not (has delivered i) else 10 ∷ ltb length count else 1 ∷ []) ⌝ }
+{
+    if sets::has(delivered, i) {
+        return 10;
+    }
+    if length >= count {
+        return 1;
+    }
+    0
+}
+
+fn of_deliver(bank: &[u16], i: u16, m: u16) -> u16
+    requires { ⌜ Fit paper (now bank) ⌝ }
+    ensures { λ r. ⌜ r ≡ Refusals.refusal paper (words paper (now (bank .entry))) (deliver i m) ⌝ }
+{
+    let count = bank[Bank::COUNT];
+    if i >= bank[Bank::MEMBERS] {
+        return 3;
+    }
+    if m >= count {
+        return 4;
+    }
+    let a = record_at(m);
+    let r = moves(bank[Bank::UP], i, bank[a + Bank::HELD], i);
+    if r != 0 {
+        return r;
+    }
+    if !may_deliver(bank, i, m) {
+        return 9;
+    }
+    undelivered(
+        bank[a + Bank::DELIVERED],
+        i,
+        bank[Bank::LENGTHS + i as usize],
+        count,
+    )
+}
+
+fn of_crash(bank: &[u16], who: u16) -> u16
+    requires { ⌜ Fit paper (now bank) ⌝ }
+    ensures { λ r. ⌜ r ≡ Refusals.refusal paper (words paper (now (bank .entry))) (crash who) ⌝ }
+{
+    actor(bank, who)
+}
+
+fn of_detect(bank: &[u16], i: u16, j: u16) -> u16
+    requires { ⌜ Fit paper (now bank) ⌝ }
+    ensures { λ r. ⌜ r ≡ Refusals.refusal paper (words paper (now (bank .entry))) (detect i j) ⌝ }
+{
+    let n = bank[Bank::MEMBERS];
+    let up = bank[Bank::UP];
+    if i >= n {
+        return 3;
+    }
+    if j >= n {
+        return 3;
+    }
+    if bank[Bank::MODE] != 1 {
+        return 5;
+    }
+    if !sets::has(up, i) {
+        return 6;
+    }
+    if sets::has(up, j) {
+        return 9;
+    }
+    if !sets::has(bank[Bank::VIEWS + i as usize], j) {
+        return 10;
+    }
+    0
+}
+
+fn of_lose(bank: &[u16], from: u16, to: u16, m: u16) -> u16
+    requires { ⌜ Fit paper (now bank) ⌝ }
+    ensures { λ r. ⌜ r ≡ Refusals.refusal paper (words paper (now (bank .entry))) (lose from to m) ⌝ }
+{
+    let r = copy(bank, from, to, m);
+    if r != 0 {
+        return r;
+    }
+    if !sets::has(bank[record_at(m) + (Bank::IN_FLIGHT + to as usize)], from) {
+        return 8;
+    }
+    let up = bank[Bank::UP];
+    if !sets::has(up, from) {
+        return 0;
+    }
+    if sets::has(up, to) {
+        return 9;
+    }
+    0
+}
+
+// What refuses the step that four numbers ask for; 2 where they ask for none.
+pub(crate) fn of_asked(bank: &[u16], kind: u16, a: u16, b: u16, c: u16) -> u16
+    requires { ⌜ Fit paper (now bank) ⌝ }
+    ensures { λ r. ⌜ r ≡ askedRefusal paper (now (bank .entry)) (asked kind a b c) ⌝ }
+{
+    match kind {
+        1 => of_broadcast(bank, a, b, c),
+        2 => of_send(bank, a, b, c),
+        3 => of_receive(bank, a, b, c),
+        4 => {
+            if c != 0 {
+                return 2;
+            }
+            of_deliver(bank, a, b)
+        }
+        5 => {
+            if b != 0 {
+                return 2;
+            }
+            if c != 0 {
+                return 2;
+            }
+            of_crash(bank, a)
+        }
+        6 => {
+            if c != 0 {
+                return 2;
+            }
+            of_detect(bank, a, b)
+        }
+        7 => of_lose(bank, a, b, c),
+        _ => 2,
+    }
+}
