@@ -7,3 +7,6 @@ pub mod Step
 pub mod Refusals
 pub mod Writes
 pub mod Promises
+pub mod Lists
+pub mod Logs
+pub mod Cases

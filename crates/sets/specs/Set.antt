@@ -46,3 +46,19 @@ countBelow w n = tally (has w) n
 -- A u16 has room for sixteen controllers; one that has no bit there cannot join.
 unfoldable pub join : ℕ → ℕ → ℕ
 join w i = cond (ltb i 16) (with w i) w
+
+-- the set of the numbers below n that pass a test, and the members of u that w does not have
+unfoldable pub setOf : (ℕ → Bool) → ℕ → ℕ
+setOf p zero = 0
+setOf p (suc n) = setOf p n + cond (p n) (2 ^ n) 0
+
+unfoldable pub less : ℕ → ℕ → ℕ
+less u w = setOf (λ i. has u i && not (has w i)) 16
+
+-- the least of k numbers from i on that passes a test, i + k where none does; the lowest member below n, n where there is none
+unfoldable pub leastFrom : (ℕ → Bool) → ℕ → ℕ → ℕ
+leastFrom p i zero = i
+leastFrom p i (suc k) = let later = leastFrom p (suc i) k in cond (p i) i later
+
+unfoldable pub lowest : ℕ → ℕ → ℕ
+lowest w n = leastFrom (has w) 0 n

@@ -65,3 +65,21 @@ pub fn within(u: u16, w: u16, n: u16) -> bool
 {
     cut(u - (u & w), n) == 0
 }
+
+// The members of u that w does not have.
+pub fn less(u: u16, w: u16) -> u16
+    ensures { λ r. ⌜ r ≡ Set.less u w ⌝ }
+{
+    u - (u & w)
+}
+
+// The lowest member below n, or n where there is none.
+pub fn lowest(w: u16, n: u16) -> u16
+    ensures { λ r. ⌜ r ≡ Set.lowest w n ⌝ }
+{
+    let members = cut(w, n);
+    if members == 0 {
+        return n;
+    }
+    u16::trailing_zeros(members) as u16
+}

@@ -1,0 +1,59 @@
+-- The tally of a day over a log: how many of its entries are the day's, and the sum of their values.
+use Prim.Native.Nat.{ℕ, _+_, min}
+use mathlib.Core.Path.{_≡_}
+use mathlib.Core.Bool.{Bool, true, false, cond, _&&_}
+use mathlib.Core.List.{List, [], _∷_, map}
+use lib.Dec.{eqb, leb}
+use Rattle.group.specs.Place.{Words, message, stamp, value}
+use Rattle.group.specs.Layout.{Layout, paper, words}
+use Rattle.group.specs.Fit.{fit}
+use Rattle.group.specs.Refusals.{_else_, firstBroken, isController, isMessage}
+use Rattle.group.specs.Logs.{logOf}
+use Rattle.day.specs.Days.{dayOf, lastDay}
+use Rattle.day.specs.declared.Tally.{Tally}
+
+abbrev pub tally : ℕ → ℕ → Tally
+tally n s = record { count = n; sum = s }
+
+abbrev pub empty : Tally
+empty = tally 0 0
+
+-- one log entry more; the two words count as far as they reach, which no log of a bank comes near
+abbrev pub addEntry : ℕ → Tally → ℕ → ℕ → Tally
+addEntry day t s v =
+    cond (eqb (dayOf s) day) (tally (min (t .count + 1) 65535) (min (t .sum + v) 4294967295)) t
+
+-- the entries of a log one after another, each a message number
+unfoldable pub addAll : ℕ → Words → Tally → List ℕ → Tally
+addAll day w t [] = t
+addAll day w t (m ∷ ms) = addAll day w (addEntry day t (w (message m stamp)) (w (message m value))) ms
+
+-- whether every entry is a given message
+unfoldable pub allGiven : Words → List ℕ → Bool
+allGiven w [] = true
+allGiven w (m ∷ ms) = isMessage w m && allGiven w ms
+
+abbrev pub tallyRefusal : Layout → List ℕ → ℕ → ℕ → ℕ
+tallyRefusal L b who day =
+    firstBroken
+    (fit L b else 1
+    ∷ isController (words L b) who else 3
+    ∷ leb day lastDay else 14
+    ∷ allGiven (words L b) (logOf L b who) else 1
+    ∷ [])
+
+-- the refusal, and the tally, which is empty where the question is refused
+pub record Answer : Type 0 where
+  pub refusal : ℕ
+  pub tally : Tally
+
+abbrev pub answer : ℕ → Tally → Answer
+answer r t = record { refusal = r; tally = t }
+
+unfoldable pub tallyOf : Layout → List ℕ → ℕ → ℕ → Answer
+tallyOf L b who day =
+    answer (tallyRefusal L b who day)
+    (cond (eqb (tallyRefusal L b who day) 0) (addAll day (words L b) empty (logOf L b who)) empty)
+
+abbrev pub TallyPromise : List ℕ → ℕ → ℕ → ℕ → ℕ → ℕ → Type 0
+TallyPromise b who day r n s = answer r (tally n s) ≡ tallyOf paper b who day

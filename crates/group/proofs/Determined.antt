@@ -1,0 +1,22 @@
+-- Each promise leaves no room: two answers and banks that it allows for the same input are equal.
+use Prim.Native.Nat.{ℕ}
+use mathlib.Core.Path.{_≡_, sym, ap, _∙_}
+use mathlib.Core.List.{List}
+use Rattle.group.specs.Opening.{Answer, answer}
+use Rattle.group.specs.Promises.{OpenPromise, RefusalPromise, StepPromise}
+
+-- an answer and a bank that are one definition's value are determined by it
+one-answer : {d : Answer} {r s : ℕ} {b c : List ℕ} → answer r b ≡ d → answer s c ≡ d → (r ≡ s) × (b ≡ c)
+one-answer e f = let g = e ∙ sym f in (ap (λ a. a .refusal) g, ap (λ a. a .bank) g)
+
+pub open-determined : (b : List ℕ) (n k : ℕ) {r s : ℕ} {c d : List ℕ} → OpenPromise b n k r c → OpenPromise b n k s d
+    → (r ≡ s) × (c ≡ d)
+open-determined b n k e f = one-answer e f
+
+pub refusal-determined : (b : List ℕ) (kind x y z : ℕ) {r s : ℕ} → RefusalPromise b kind x y z r
+    → RefusalPromise b kind x y z s → r ≡ s
+refusal-determined b kind x y z e f = e ∙ sym f
+
+pub step-determined : (b : List ℕ) (kind x y z : ℕ) {r s : ℕ} {c d : List ℕ} → StepPromise b kind x y z r c
+    → StepPromise b kind x y z s d → (r ≡ s) × (c ≡ d)
+step-determined b kind x y z e f = one-answer e f

@@ -1,0 +1,27 @@
+-- Questions about a log: how long it is, and its used part.
+use Prim.Native.Nat.{ℕ}
+use mathlib.Core.Path.{_≡_}
+use mathlib.Core.Bool.{Bool, true, false, cond}
+use mathlib.Core.List.{List, [], _∷_}
+use lib.Dec.{eqb}
+use lib.ListN.{take, drop}
+use Rattle.group.specs.Place.{logLength, log}
+use Rattle.group.specs.Layout.{Layout, paper, address, words}
+use Rattle.group.specs.Fit.{fit}
+use Rattle.group.specs.Refusals.{_else_, firstBroken, isController}
+
+abbrev pub logRefusal : Layout → List ℕ → ℕ → ℕ
+logRefusal L b who = firstBroken (fit L b else 1 ∷ isController (words L b) who else 3 ∷ [])
+
+abbrev pub lengthOf : Layout → List ℕ → ℕ → ℕ
+lengthOf L b who = cond (eqb (logRefusal L b who) 0) (words L b (logLength who)) 0
+
+-- the used part: empty where the question is refused
+abbrev pub logOf : Layout → List ℕ → ℕ → List ℕ
+logOf L b who = take (lengthOf L b who) (drop (address L (log who 0)) b)
+
+abbrev pub LengthPromise : List ℕ → ℕ → ℕ → ℕ → Type 0
+LengthPromise b who r n = (r ≡ logRefusal paper b who) × (n ≡ lengthOf paper b who)
+
+abbrev pub LogPromise : List ℕ → ℕ → List ℕ → Type 0
+LogPromise b who part = part ≡ logOf paper b who

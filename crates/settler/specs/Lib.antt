@@ -1,0 +1,3 @@
+pub mod Candidates
+pub mod Moves
+pub mod Settling
