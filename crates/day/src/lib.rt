@@ -8,7 +8,6 @@ ghost use Rattle.group.specs.Fit.{Fit};
 ghost use Rattle.day.specs.Days.{dayOf};
 ghost use Rattle.day.specs.Tallies;
 ghost use Rattle.day.specs.Tallies.{addEntry, empty, TallyPromise};
-
 use group::Bank;
 
 // How many entries of a log are a day's, and the sum of their values.
@@ -51,7 +50,11 @@ fn sum_with(sum: u32, value: u16) -> u32
     ensures { λ r. ⌜ r ≡ min (sum + value) 4294967295 ⌝ }
 {
     let v = value as u32;
-    if sum <= 4294967295 - v { sum + v } else { 4294967295 }
+    if sum <= 4294967295 - v {
+        sum + v
+    } else {
+        4294967295
+    }
 }
 
 // The answer to a question about a day: the tally is empty where it is refused.

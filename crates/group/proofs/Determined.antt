@@ -4,6 +4,8 @@ use mathlib.Core.Path.{_≡_, sym, ap, _∙_}
 use mathlib.Core.List.{List}
 use Rattle.group.specs.Opening.{Answer, answer}
 use Rattle.group.specs.Promises.{OpenPromise, RefusalPromise, StepPromise}
+use Rattle.group.specs.Lists.{RunPromise}
+use Rattle.group.specs.Logs.{LengthPromise, LogPromise}
 
 -- an answer and a bank that are one definition's value are determined by it
 one-answer : {d : Answer} {r s : ℕ} {b c : List ℕ} → answer r b ≡ d → answer s c ≡ d → (r ≡ s) × (b ≡ c)
@@ -20,3 +22,15 @@ refusal-determined b kind x y z e f = e ∙ sym f
 pub step-determined : (b : List ℕ) (kind x y z : ℕ) {r s : ℕ} {c d : List ℕ} → StepPromise b kind x y z r c
     → StepPromise b kind x y z s d → (r ≡ s) × (c ≡ d)
 step-determined b kind x y z e f = one-answer e f
+
+pub run-determined : (b steps : List ℕ) {n k r s : ℕ} {c d : List ℕ} → RunPromise b steps n r c → RunPromise b steps k s d
+    → (n ≡ k) × (r ≡ s) × (c ≡ d)
+run-determined b steps e f =
+    let g = e ∙ sym f in (ap (λ o. o .accepted) g, ap (λ o. o .refusal) g, ap (λ o. o .bank) g)
+
+pub length-determined : (b : List ℕ) (who : ℕ) {r s n k : ℕ} → LengthPromise b who r n → LengthPromise b who s k
+    → (r ≡ s) × (n ≡ k)
+length-determined b who e f = (e .0 ∙ sym (f .0), e .1 ∙ sym (f .1))
+
+pub log-determined : (b : List ℕ) (who : ℕ) {c d : List ℕ} → LogPromise b who c → LogPromise b who d → c ≡ d
+log-determined b who e f = e ∙ sym f

@@ -47,35 +47,39 @@ fields-rise : (L : Layout) → Rising (offset L) 0 (fields L)
 unfolding fields
 fields-rise L =
     let n : ℕ = L .controllers in
-    let at : ℕ → ℕ = λ r. start r (recordWidths L) in
-    ( refl
-    , ( refl
-      , ( refl
-        , ( refl
-          , ( refl
-            , rising-append (offset L) (map acked (upFrom 0 n)) _ 5 (5 + n) (ap (λ x. 5 + x) (length-family acked n 0))
-              (rising-family (offset L) (at 5) acked (λ i. refl) n 0 5 refl)
-              (rising-append (offset L) (map unsent (upFrom 0 n)) _ (5 + n) (5 + n + n)
-              (ap (λ x. 5 + n + x) (length-family unsent n 0))
-              (rising-family (offset L) (at 6) unsent (λ i. refl) n 0 (5 + n) (omega arith))
-              (rising-family (offset L) (at 7) inFlight (λ i. refl) n 0 (5 + n + n) (omega arith)))
-            )
-          )
-        )
-      )
+    let at : ℕ → ℕ = λ r. start r (recordWidths L) in (
+      refl,
+      (
+        refl,
+        (
+          refl,
+          (
+            refl,
+            (
+              refl,
+              rising-append (offset L) (map acked (upFrom 0 n)) _ 5 (5 + n) (ap (λ x. 5 + x) (length-family acked n 0))
+                  (rising-family (offset L) (at 5) acked (λ i. refl) n 0 5 refl)
+                  (rising-append (offset L) (map unsent (upFrom 0 n)) _ (5 + n) (5 + n + n)
+                  (ap (λ x. 5 + n + x) (length-family unsent n 0))
+                  (rising-family (offset L) (at 6) unsent (λ i. refl) n 0 (5 + n) (omega arith))
+                  (rising-family (offset L) (at 7) inFlight (λ i. refl) n 0 (5 + n + n) (omega arith))),
+            ),
+          ),
+        ),
+      ),
     )
 
 pub length-fields : (L : Layout) → length (fields L) ≡ recordSize L
 unfolding fields
 length-fields L =
     let n : ℕ = L .controllers in
-    omega
-    ( arith
-    , length-append (map acked (upFrom 0 n)) (map unsent (upFrom 0 n) ++ map inFlight (upFrom 0 n))
-    , length-append (map unsent (upFrom 0 n)) (map inFlight (upFrom 0 n))
-    , length-family acked n 0
-    , length-family unsent n 0
-    , length-family inFlight n 0
+    omega (
+      arith,
+      length-append (map acked (upFrom 0 n)) (map unsent (upFrom 0 n) ++ map inFlight (upFrom 0 n)),
+      length-append (map unsent (upFrom 0 n)) (map inFlight (upFrom 0 n)),
+      length-family acked n 0,
+      length-family unsent n 0,
+      length-family inFlight n 0,
     )
 
 -- a record written field by field is the list of its words, whatever it held

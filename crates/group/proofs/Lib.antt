@@ -4,6 +4,14 @@ pub mod Places
 pub mod Reading
 pub mod Lending
 pub mod Rules
+pub mod Deciding
 pub mod Fitness
 pub mod Bounds
 pub mod Fresh
+pub mod Views
+pub mod WritesIn
+pub mod Kept
+pub mod Runs
+pub mod Asking
+pub mod Determined
+pub mod Cases

@@ -138,7 +138,8 @@ fn logs_fit(bank: &[u16], n: u16) -> bool
     true
 }
 
-pub(crate) fn fit(bank: &[u16]) -> bool
+// Whether a bank is fit.
+pub fn fit(bank: &[u16]) -> bool
     ensures { λ r. ⌜ r ≡ Fit.fit paper (now (bank .entry)) ⌝ }
 {
     if bank.len() != Bank::WORDS {

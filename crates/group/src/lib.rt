@@ -1,11 +1,20 @@
 // The group's rules: opening a bank, what refuses a step, and one step, over a run of words that the caller lends.
 // Nothing is kept between calls. What is right stands in specs/, what each call promises in specs/Promises.antt.
 mod bank;
+mod lists;
+mod logs;
 mod record;
 mod refusals;
 mod steps;
 
 pub use bank::Bank;
+pub use bank::fit;
+pub use lists::Ran;
+pub use lists::run;
+pub use logs::LogLength;
+pub use logs::log;
+pub use logs::log_length;
+pub use refusals::enough;
 ghost use Rattle.group.specs.Promises.{OpenPromise, RefusalPromise, StepPromise};
 
 // Opens a group of n controllers: the whole bank is written anew.

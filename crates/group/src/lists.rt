@@ -12,20 +12,32 @@ pub fn run(bank: &mut [u16], steps: &[u16]) -> Ran
     ensures { λ r. ⌜ RunPromise (now (bank .entry)) (now (steps .entry)) (r .accepted) (r .refusal) (now (bank .exit)) ⌝ }
 {
     if !crate::bank::fit(bank) {
-        return Ran { accepted: 0, refusal: 1 };
+        return Ran {
+            accepted: 0,
+            refusal: 1,
+        };
     }
     if steps.len() % 4 != 0 {
-        return Ran { accepted: 0, refusal: 13 };
+        return Ran {
+            accepted: 0,
+            refusal: 13,
+        };
     }
     let mut i: usize = 0;
     let mut accepted: usize = 0;
     while i < steps.len() {
         let r = crate::step(bank, steps[i], steps[i + 1], steps[i + 2], steps[i + 3]);
         if r != 0 {
-            return Ran { accepted, refusal: r };
+            return Ran {
+                accepted,
+                refusal: r,
+            };
         }
         accepted += 1;
         i += 4;
     }
-    Ran { accepted, refusal: 0 }
+    Ran {
+        accepted,
+        refusal: 0,
+    }
 }

@@ -2,7 +2,6 @@
 ghost use mathlib.Core.Path.{_≡_};
 ghost use Rattle.group.specs.Layout.{paper};
 ghost use Rattle.group.specs.Logs.{LengthPromise, LogPromise, logRefusal, lengthOf};
-
 use crate::Bank;
 
 // A log's length, 0 where the question is refused.
@@ -15,10 +14,16 @@ pub fn log_length(bank: &[u16], who: u16) -> LogLength
     ensures { λ r. ⌜ LengthPromise (now (bank .entry)) who (r .refusal) (r .length) ⌝ }
 {
     if !crate::bank::fit(bank) {
-        return LogLength { refusal: 1, length: 0 };
+        return LogLength {
+            refusal: 1,
+            length: 0,
+        };
     }
     if who >= bank[Bank::MEMBERS] {
-        return LogLength { refusal: 3, length: 0 };
+        return LogLength {
+            refusal: 3,
+            length: 0,
+        };
     }
     LogLength {
         refusal: 0,

@@ -98,18 +98,24 @@ fn of_receive(bank: &[u16], i: u16, from: u16, m: u16) -> u16
     moves(bank[Bank::UP], i, in_flight, from)
 }
 
-// The mode's test: who has acked is enough.
+// The delivery test of a mode, among n controllers: whom one of them takes to be up, and from whom it has the message.
+pub fn enough(mode: u16, n: u16, trusted: u16, received: u16) -> bool
+    ensures { λ r. ⌜ r ≡ Refusals.enough mode n trusted received ⌝ }
+{
+    if mode == 1 {
+        return sets::within(trusted, received, n);
+    }
+    (n as u32) < 2 * sets::count_below(received, n)
+}
+
 fn may_deliver(bank: &[u16], i: u16, m: u16) -> bool
     requires { ⌜ Fit paper (now bank) ⌝ }
     requires { ⌜ (i < words paper (now bank) members) × (m < words paper (now bank) count) ⌝ }
     ensures { λ r. ⌜ r ≡ mayDeliver (words paper (now (bank .entry))) i m ⌝ }
 {
-    let n = bank[Bank::MEMBERS];
-    let acked = bank[record_at(m) + (Bank::ACKED + i as usize)];
-    if bank[Bank::MODE] == 1 {
-        return sets::within(bank[Bank::VIEWS + i as usize], acked, n);
-    }
-    (n as u32) < 2 * sets::count_below(acked, n)
+    let trusted = bank[Bank::VIEWS + i as usize];
+    let received = bank[record_at(m) + (Bank::ACKED + i as usize)];
+    enough(bank[Bank::MODE], bank[Bank::MEMBERS], trusted, received)
 }
 
 // The last tests of a delivery: not done yet, and room in the log.

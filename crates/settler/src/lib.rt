@@ -2,7 +2,6 @@
 mod search;
 
 ghost use Rattle.settler.specs.Settling.{SettlePromise};
-
 use search::Next;
 
 // 0 or 1, the steps taken, and whether no step is left.

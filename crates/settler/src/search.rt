@@ -12,7 +12,6 @@ ghost use Rattle.settler.specs.Candidates;
 ghost use Rattle.settler.specs.Candidates.{below, pairs, ofMessage, firstOf, free};
 ghost use Rattle.settler.specs.Moves.{nextOf, copy, CopyKind};
 ghost use Rattle.settler.specs.Settling.{onNext};
-
 use group::Bank;
 
 // The four numbers that ask for a step.
@@ -105,7 +104,12 @@ fn may_deliver(bank: &[u16], i: u16, m: u16) -> bool
         return false;
     }
     let trusted = bank[Bank::VIEWS + i as usize];
-    group::enough(bank[Bank::MODE], bank[Bank::MEMBERS], trusted, bank[a + (Bank::ACKED + i as usize)])
+    group::enough(
+        bank[Bank::MODE],
+        bank[Bank::MEMBERS],
+        trusted,
+        bank[a + (Bank::ACKED + i as usize)],
+    )
 }
 
 fn first_deliver(bank: &[u16], m: u16) -> Next

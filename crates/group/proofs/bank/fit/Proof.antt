@@ -1,23 +1,19 @@
 -- fit: the code makes the specification's tests in the same order, and the first that fails decides.
-use Prim.Native.Nat.{ℕ, _≤_}
+use Prim.Native.Nat.{ℕ}
 use mathlib.Core.Path.{_≡_, sym, _∙_}
 use mathlib.Core.Bool.{Bool, true, _&&_}
 use mathlib.Core.List.{List}
 use native.Mathlib.Omega.{arith}
 use borrow.Author.Needs.{needs}
-use borrow.Author.Tests.{eq-eqb, ne-eqb, le-leb, lt-leb, leb-true, not-true, not-false}
+use borrow.Author.Tests.{eq-eqb, ne-eqb, le-leb, lt-leb, not-true, not-false}
 use lib.Dec.{leb}
-use lib.ListN.{getD}
 use Rattle.sets.specs.Set.{every}
 use Rattle.group.specs.Place.{members, mode, count}
 use Rattle.group.specs.Layout.{paper, words}
 use Rattle.group.specs.Fit.{fit, isSize, isMode, logFits}
-use Rattle.group.proofs.Fitness.{both}
+use Rattle.group.proofs.Views.{size-range}
 use Rattle.group.proofs.bank.fit.Statement.{statement}
 use Rattle.group.proofs.bank.fit.Tie as tie
-
-few : (n : ℕ) → isSize paper n ≡ true → n ≤ 16
-few n e = leb-true n 16 (both (leb 1 n) (leb n 16) e .1)
 
 -- what is left of the test from the count on, and from the mode on
 abbrev fromCount : List ℕ → Bool
@@ -26,14 +22,17 @@ fromCount b = leb (words paper b count) (paper .messages) && every (logFits (wor
 abbrev fromMode : List ℕ → Bool
 fromMode b = isMode (words paper b mode) && fromCount b
 
-sized : (c : tie.Else2) → isSize paper (getD (c .before .before .before .before .before .args .bank .now) 0 0) ≡ true
+-- the bank as it was lent
+abbrev lent : tie.Else2 → List ℕ
+lent c = c .before .before .before .before .before .args .bank .now
+
+sized : (c : tie.Else2) → isSize paper (words paper (lent c) members) ≡ true
 sized c = sym (c .before .is-size .ensures) ∙ not-false _ (c .if2 .left)
 
-at-mode : (c : tie.Else2) → let b = c .before .before .before .before .before .args .bank .now in fit paper b ≡ fromMode b
+at-mode : (c : tie.Else2) → fit paper (lent c) ≡ fromMode (lent c)
 at-mode c = rw (eq-eqb _ _ (c .before .before .before .if1 .left), sized c)
 
-at-count : (c : tie.Else3) → let b = c .before .before .before .before .before .before .before .before .args .bank .now in
-    fit paper b ≡ fromCount b
+at-count : (c : tie.Else3) → let b = lent (c .before .before .before) in fit paper b ≡ fromCount b
 at-count c = at-mode (c .before .before .before) ∙ rw (sym (c .before .is-mode .ensures) ∙ not-false _ (c .if3 .left))
 
 returns : tie.Need-returns
@@ -47,7 +46,8 @@ is-size-requires c κs = search needs
 
 returns-2 : tie.Need-returns-2
 returns-2 c =
-    rw (eq-eqb _ _ (c .before .before .before .if1 .left), sym (c .before .is-size .ensures) ∙ not-true _ (c .if2 .taken))
+    let outside = sym (c .before .is-size .ensures) ∙ not-true _ (c .if2 .taken) in
+    rw (eq-eqb _ _ (c .before .before .before .if1 .left), outside)
 
 shared-slice-read-is-mode : tie.Need-shared-slice-read-is-mode
 shared-slice-read-is-mode c = search needs
@@ -56,7 +56,9 @@ is-mode-requires : tie.Need-is-mode-requires
 is-mode-requires c κs = search needs
 
 returns-3 : tie.Need-returns-3
-returns-3 c = rw (at-mode (c .before .before .before), sym (c .before .is-mode .ensures) ∙ not-true _ (c .if3 .taken))
+returns-3 c =
+    let unknown = sym (c .before .is-mode .ensures) ∙ not-true _ (c .if3 .taken) in
+    rw (at-mode (c .before .before .before), unknown)
 
 shared-slice-read-if4 : tie.Need-shared-slice-read-if4
 shared-slice-read-if4 c = search needs
@@ -65,7 +67,7 @@ returns-4 : tie.Need-returns-4
 returns-4 c = rw (at-count (c .before .before), lt-leb _ _ (c .if4 .taken))
 
 logs-fit-requires : tie.Need-logs-fit-requires
-logs-fit-requires c κs = (omega arith, few _ (sized (c .before .before .before .before .before)))
+logs-fit-requires c κs = (omega arith, size-range paper _ (sized (c .before .before .before .before .before)) .1)
 
 returns-5 : tie.Need-returns-5
 returns-5 c = rw (at-count (c .before .before .before), le-leb _ _ (c .before .if4 .left)) (c .logs-fit .ensures)

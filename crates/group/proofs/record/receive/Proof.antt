@@ -79,13 +79,13 @@ returns c =
     let s = c .before .before .before .before .before .before .before .before .before .args in
     let i : s .i < 16 = omega arith in
     let f : s .from < 16 = omega arith in
-    rw
-    ( c .before .before .before .without .ensures
-    , c .before .before .with .ensures
-    , c .before .with2 .ensures
-    , c .relay .ensures
-    , join-with _ _ i
-    , join-with _ _ f
+    rw (
+      c .before .before .before .without .ensures,
+      c .before .before .with .ensures,
+      c .before .with2 .ensures,
+      c .relay .ensures,
+      join-with _ _ i,
+      join-with _ _ f,
     )
 
 pub receive-spec : {M : Type 1} → statement M

@@ -52,13 +52,13 @@ returns c =
     let who : ℕ = s .args .who in
     let h : who < 16 = s .pre .1 in
     let all : min n 16 ≡ n = omega arith in
-    rw
-    ( c .before .before .before .before .clear .ensures
-    , c .before .with .ensures
-    , c .all-below .ensures
-    , join-with 0 who h
-    , all
-    , s .pre .0
+    rw (
+      c .before .before .before .before .clear .ensures,
+      c .before .with .ensures,
+      c .all-below .ensures,
+      join-with 0 who h,
+      all,
+      s .pre .0,
     )
     (five-words n who (s .args .s) (s .args .v) h
     ∙ sym (whole-record paper (fresh n who (s .args .s) (s .args .v)) (now (s .args .«record»)) (s .pre .0)))

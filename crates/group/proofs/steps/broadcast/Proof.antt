@@ -40,10 +40,10 @@ part-write-fresh-start : tie.Need-part-write-fresh-start
 part-write-fresh-start c = search needs
 
 below : (c : tie.Start) → (c .args .who < 16) × (words paper (now (c .args .bank)) count < 32)
-below c =
-    ( controller-below paper (now (c .args .bank)) (c .pre .sound) (c .args .who) (c .pre .free .0)
-    , ltb-true _ _ (c .pre .free .1 .1 .0)
-    )
+below c = (
+  controller-below paper (now (c .args .bank)) (c .pre .sound) (c .args .who) (c .pre .free .0),
+  ltb-true _ _ (c .pre .free .1 .1 .0),
+)
 
 part-write-fresh-end : tie.Need-part-write-fresh-end
 part-write-fresh-end c = omega (arith, below (c .before .before .before .before), c .record-at .ensures)

@@ -1,0 +1,82 @@
+//! Compares the model on plain sets with the archive, through the C face, on random cases.
+
+use std::process::ExitCode;
+use std::time::{Duration, Instant};
+
+use loargwen_host::args::Args;
+use loargwen_host::cases::{self, Setting};
+use loargwen_host::face::Archive;
+use loargwen_host::figures::Figures;
+use loargwen_host::plant::Plant;
+
+const USAGE: &str = "usage: compare SEED STEPS [--minutes M] [--case K] [--plant NAME]
+  runs cases until STEPS single steps were compared and, with --minutes, until time is up;
+  --case runs that case alone; --plant puts a fault into the model, which must be found";
+
+/// What the command line asks for.
+struct Request {
+    seed: u64,
+    steps: u64,
+    time: Duration,
+    case: Option<u64>,
+    plant: Option<Plant>,
+    planted: String,
+}
+
+fn request() -> Result<Request, String> {
+    let args = Args::read(std::env::args().skip(1), &["minutes", "case", "plant"])?;
+    let minutes: f64 = args.flag_number("minutes")?.unwrap_or(0.0);
+    let planted = args.flag("plant").map(|name| format!(" --plant {name}"));
+    Ok(Request {
+        seed: args.number(0, "SEED")?,
+        steps: args.number(1, "STEPS")?,
+        time: Duration::try_from_secs_f64(60.0 * minutes).map_err(|error| error.to_string())?,
+        case: args.flag_number("case")?,
+        plant: args.flag("plant").map(Plant::named).transpose()?,
+        planted: planted.unwrap_or_default(),
+    })
+}
+
+/// Runs all cases asked for, up to the first difference; the case is told with it.
+fn run(request: &Request, figures: &mut Figures) -> Result<(), (u64, String)> {
+    let setting = Setting {
+        calls: &Archive,
+        plant: request.plant,
+        seed: request.seed,
+    };
+    let began = Instant::now();
+    let mut number = request.case.unwrap_or(0);
+    loop {
+        cases::run(&setting, number, figures).map_err(|text| (number, text))?;
+        let enough = figures.calls("step") >= request.steps && began.elapsed() >= request.time;
+        if enough || request.case.is_some() {
+            return Ok(());
+        }
+        number += 1;
+    }
+}
+
+fn main() -> ExitCode {
+    let request = match request() {
+        Ok(request) => request,
+        Err(text) => {
+            eprintln!("{text}\n{USAGE}");
+            return ExitCode::from(2);
+        }
+    };
+    let mut figures = Figures::default();
+    let began = Instant::now();
+    let done = run(&request, &mut figures);
+    print!("seed {}\n{figures}", request.seed);
+    match done {
+        Ok(()) => {
+            println!("no difference, {:.1} s", began.elapsed().as_secs_f64());
+            ExitCode::SUCCESS
+        }
+        Err((number, text)) => {
+            let (seed, planted) = (request.seed, request.planted);
+            println!("difference: {text}  again: compare {seed} 0 --case {number}{planted}");
+            ExitCode::FAILURE
+        }
+    }
+}

@@ -1,0 +1,237 @@
+//! Whole cases of a comparison, each drawn from a seed and a number: runs, spoilt and unfit banks, days.
+
+use crate::bank::Unfit;
+use crate::banks;
+use crate::contest::{Calls, Contest};
+use crate::figures::Figures;
+use crate::layout;
+use crate::plant::Plant;
+use crate::random::{Random, DAYS};
+
+/// What one case is about.
+#[derive(Clone, Copy, PartialEq, Eq, Debug)]
+enum Case {
+    Short,
+    Long,
+    Full,
+    Spoilt,
+    Unfit(Unfit),
+    Opening,
+    Days,
+}
+
+/// What a case runs on.
+pub struct Setting<'a> {
+    /// The calls under test.
+    pub calls: &'a dyn Calls,
+    /// The fault in the model, if any.
+    pub plant: Option<Plant>,
+    /// The seed of the whole comparison.
+    pub seed: u64,
+}
+
+impl Case {
+    fn draw(random: &mut Random) -> Case {
+        match random.below(1000) {
+            0..400 => Case::Short,
+            400..650 => Case::Long,
+            650..651 => Case::Full,
+            651..850 => Case::Spoilt,
+            850..900 => Case::Unfit(random.pick(&Unfit::ALL)),
+            900..930 => Case::Opening,
+            _ => Case::Days,
+        }
+    }
+
+    fn name(self) -> &'static str {
+        match self {
+            Case::Short => "short run",
+            Case::Long => "long run",
+            Case::Full => "full group",
+            Case::Spoilt => "spoilt",
+            Case::Unfit(Unfit::Length) => "unfit length",
+            Case::Unfit(Unfit::Controllers) => "unfit N",
+            Case::Unfit(Unfit::Mode) => "unfit mode",
+            Case::Unfit(Unfit::Messages) => "unfit messages",
+            Case::Unfit(Unfit::Log) => "unfit log",
+            Case::Opening => "opening",
+            Case::Days => "days",
+        }
+    }
+}
+
+/// Runs the case of this number; a difference is described.
+pub fn run(setting: &Setting, number: u64, figures: &mut Figures) -> Result<(), String> {
+    let mut random = Random::new(setting.seed, number);
+    let random = &mut random;
+    let case = Case::draw(random);
+    figures.case(case.name());
+    let bytes = match case {
+        Case::Spoilt => banks::spoilt(random),
+        Case::Unfit(cause) => banks::unfit(random, cause),
+        Case::Opening if random.chance(30) => banks::unfit(random, Unfit::Length),
+        Case::Opening => random.bytes(layout::BYTES),
+        _ if random.chance(50) => random.bytes(layout::BYTES),
+        _ => vec![0; layout::BYTES],
+    };
+    let mut contest = Contest::new(setting.calls, &bytes, setting.plant, random, figures);
+    let done = match case {
+        Case::Short => opened(&mut contest, random, 60),
+        Case::Long => opened(&mut contest, random, 1_500),
+        Case::Full => full(&mut contest, random),
+        Case::Spoilt => spoilt(&mut contest, random),
+        Case::Unfit(_) => unfit(&mut contest, random),
+        Case::Opening => opening(&mut contest, random),
+        Case::Days => days(&mut contest, random),
+    };
+    done.map_err(|text| {
+        let seed = setting.seed;
+        format!("seed {seed}, case {number} ({}), {text}", case.name())
+    })
+}
+
+type Done = Result<(), String>;
+
+/// One call, mostly a step.
+fn any_call(contest: &mut Contest, random: &mut Random) -> Done {
+    match random.below(100) {
+        0..80 => {
+            let garbage = random.chance(8);
+            let step = match contest.group().filter(|_| !garbage) {
+                Some(group) => random.likely_step(group),
+                None => random.garbage_step(contest.group()),
+            };
+            contest.step(step).map(drop)
+        }
+        80..92 => contest.step(random.garbage_step(contest.group())).map(drop),
+        92..97 => {
+            let budget = random.pick(&[0, 1, 2, 5, 20]);
+            contest.settle(budget).map(drop)
+        }
+        _ => any_tally(contest, random),
+    }
+}
+
+fn any_tally(contest: &mut Contest, random: &mut Random) -> Done {
+    let n = contest.group().map_or(3, |group| group.n);
+    let who = match random.below(8) {
+        0 => random.pick(&[n, n + 1, 16, 65_535]),
+        _ => random.under(n),
+    };
+    let day = random.day(contest.group());
+    contest.tally(who, day).map(drop)
+}
+
+/// How much work a settling may be for the model: controllers squared times messages.
+fn weight(contest: &Contest) -> usize {
+    contest.group().map_or(0, |group| {
+        usize::from(group.n) * usize::from(group.n) * group.messages.len()
+    })
+}
+
+/// A settling that ends, at its exact budget or far below.
+fn last_settle(contest: &mut Contest, random: &mut Random) -> Done {
+    if weight(contest) > 1_500 {
+        return contest.settle(random.under(80)).map(drop);
+    }
+    let steps = contest.group().cloned().map_or(0, |mut group| {
+        let (taken, _) = group.settle(u16::MAX);
+        taken.len() as u16
+    });
+    let budget = random.pick(&[u16::MAX, u16::MAX, steps, steps.saturating_sub(1)]);
+    contest.settle(budget)?;
+    contest.settle(u16::MAX).map(drop)
+}
+
+fn opened(contest: &mut Contest, random: &mut Random, calls: usize) -> Done {
+    contest.open(random.controllers(), 1 + random.under(2))?;
+    for _ in 0..10 + random.below(calls) {
+        any_call(contest, random)?;
+    }
+    if random.chance(40) {
+        last_settle(contest, random)?;
+        for _ in 0..8 {
+            any_tally(contest, random)?;
+        }
+    }
+    Ok(())
+}
+
+/// Sixteen controllers and thirty-three broadcasts, some crashes, settled to the end.
+fn full(contest: &mut Contest, random: &mut Random) -> Done {
+    contest.open(16, 1 + random.under(2))?;
+    for _ in 0..33 {
+        contest.step([1, random.under(16), random.stamp(), random.value()])?;
+    }
+    contest.settle(random.word() % 300)?;
+    for who in 0..random.under(4) {
+        contest.step([5, 5 * who, 0, 0])?;
+    }
+    contest.settle(u16::MAX)?;
+    for who in 0..17 {
+        contest.tally(who, random.day(contest.group()))?;
+    }
+    Ok(())
+}
+
+fn spoilt(contest: &mut Contest, random: &mut Random) -> Done {
+    for _ in 0..random.below(120) {
+        any_call(contest, random)?;
+    }
+    for who in 0..contest.group().map_or(0, |group| group.n) {
+        contest.tally(who, random.day(contest.group()))?;
+        for message in 0..contest.group().map_or(0, |group| group.messages.len()) {
+            contest.step([4, who, message as u16, 0])?;
+        }
+    }
+    if random.chance(50) {
+        last_settle(contest, random)?;
+    }
+    Ok(())
+}
+
+/// Every call on an unfit bank; at last it may be opened.
+fn unfit(contest: &mut Contest, random: &mut Random) -> Done {
+    for _ in 0..5 {
+        contest.step(random.garbage_step(None))?;
+        contest.step([1 + random.under(7), 0, 0, 0])?;
+        contest.settle(random.pick(&[0, 1, u16::MAX]))?;
+        contest.tally(random.under(20), random.day(None))?;
+    }
+    contest.open(random.pick(&[0, 1, 3, 16, 17]), random.pick(&[0, 1, 2, 3]))?;
+    any_call(contest, random)
+}
+
+/// Openings with numbers at the edges, one after another on the same bytes.
+fn opening(contest: &mut Contest, random: &mut Random) -> Done {
+    for _ in 0..12 {
+        let any = random.word();
+        let n = random.pick(&[0, 1, 2, 8, 15, 16, 17, 256, 257, 65_535, any]);
+        let mode = random.pick(&[0, 1, 1, 2, 2, 3, 256, 257, 65_535, any]);
+        contest.open(n, mode)?;
+        for _ in 0..4 {
+            any_call(contest, random)?;
+        }
+    }
+    Ok(())
+}
+
+/// Readings around midnight, settled, and every day near the edges asked for.
+fn days(contest: &mut Contest, random: &mut Random) -> Done {
+    let n = 1 + random.under(4);
+    contest.open(n, 1 + random.under(2))?;
+    for _ in 0..1 + random.below(32) {
+        let who = random.under(n);
+        contest.step([1, who, random.stamp(), random.value()])?;
+    }
+    contest.settle(u16::MAX)?;
+    for who in 0..=n {
+        for day in DAYS {
+            contest.tally(who, day)?;
+        }
+        for _ in 0..8 {
+            contest.tally(who, random.day(contest.group()))?;
+        }
+    }
+    Ok(())
+}

@@ -1,0 +1,216 @@
+//! One call made on both sides: the model on plain sets and tested calls on guarded bytes.
+
+use std::fmt::Debug;
+
+use crate::answer::{Day, Settled};
+use crate::bank::Bank;
+use crate::figures::Figures;
+use crate::layout;
+use crate::plant::Plant;
+use crate::random::Random;
+use crate::refusal::{DONE, UNFIT};
+use crate::rules::Group;
+use crate::words;
+
+/// The four calls on bytes.
+pub trait Calls {
+    /// Opens a group.
+    fn open(&self, bank: &mut [u8], n: u16, mode: u16) -> u16;
+    /// Takes one step.
+    fn step(&self, bank: &mut [u8], step: [u16; 4]) -> u16;
+    /// Settles within a budget.
+    fn settle(&self, bank: &mut [u8], budget: u16) -> Settled;
+    /// The tally of a controller for a day.
+    fn tally(&self, bank: &[u8], who: u16, day: u16) -> Day;
+}
+
+/// The plain version, through bytes.
+pub struct Plain;
+
+/// Makes a call on the words of a bank and writes them back; `None` when the length is wrong.
+fn through<T>(bank: &mut [u8], call: impl FnOnce(&mut [u16]) -> T) -> Option<T> {
+    let mut words = words::from_bytes(bank)?;
+    let answer = call(&mut words);
+    words::to_bytes(&words, bank);
+    Some(answer)
+}
+
+impl Calls for Plain {
+    fn open(&self, bank: &mut [u8], n: u16, mode: u16) -> u16 {
+        through(bank, |words| words::open(words, n, mode)).unwrap_or(UNFIT)
+    }
+
+    fn step(&self, bank: &mut [u8], step: [u16; 4]) -> u16 {
+        through(bank, |words| words::step(words, step)).unwrap_or(UNFIT)
+    }
+
+    fn settle(&self, bank: &mut [u8], budget: u16) -> Settled {
+        through(bank, |words| words::settle(words, budget)).unwrap_or(Settled::refused(UNFIT))
+    }
+
+    fn tally(&self, bank: &[u8], who: u16, day: u16) -> Day {
+        words::from_bytes(bank).map_or(Day::refused(UNFIT), |words| words::tally(&words, who, day))
+    }
+}
+
+/// Guard bytes before and after a bank.
+const GUARD: usize = 64;
+
+/// The guard byte at a place of the field.
+fn guard(place: usize) -> u8 {
+    (place as u8).wrapping_mul(37) ^ 0xA5
+}
+
+/// Both sides of a comparison, on the same bytes.
+pub struct Contest<'a> {
+    calls: &'a dyn Calls,
+    model: Bank,
+    field: Vec<u8>,
+    start: usize,
+    made: u64,
+    figures: &'a mut Figures,
+}
+
+impl<'a> Contest<'a> {
+    /// Lends these bytes to both sides, at any alignment.
+    pub fn new(
+        calls: &'a dyn Calls,
+        bytes: &[u8],
+        plant: Option<Plant>,
+        random: &mut Random,
+        figures: &'a mut Figures,
+    ) -> Contest<'a> {
+        let start = GUARD + random.below(4);
+        let end = start + bytes.len();
+        let mut field: Vec<u8> = (0..end + GUARD).map(guard).collect();
+        field[start..end].copy_from_slice(bytes);
+        Contest {
+            calls,
+            model: Bank::planted(bytes, plant),
+            field,
+            start,
+            made: 0,
+            figures,
+        }
+    }
+
+    /// The group as the model sees it, when the bank is fit.
+    pub fn group(&self) -> Option<&Group> {
+        self.model.group()
+    }
+
+    fn end(&self) -> usize {
+        self.start + self.model.bytes().len()
+    }
+
+    /// Opens a group on both sides.
+    pub fn open(&mut self, n: u16, mode: u16) -> Result<u16, String> {
+        let (start, end) = (self.start, self.end());
+        let want = self.model.open(n, mode);
+        let got = self.calls.open(&mut self.field[start..end], n, mode);
+        self.figures.answer("open", want);
+        self.check(|| format!("open {n} {mode}"), want, got)
+    }
+
+    /// Takes a step on both sides.
+    pub fn step(&mut self, step: [u16; 4]) -> Result<u16, String> {
+        let (start, end) = (self.start, self.end());
+        let want = self.model.step(step);
+        let got = self.calls.step(&mut self.field[start..end], step);
+        self.figures.answer("step", want);
+        if want == DONE {
+            *self.figures.kinds.entry(step[0]).or_default() += 1;
+        }
+        self.check(|| format!("step {step:?}"), want, got)
+    }
+
+    /// Settles on both sides.
+    pub fn settle(&mut self, budget: u16) -> Result<Settled, String> {
+        let (start, end) = (self.start, self.end());
+        let want = self.model.settle(budget);
+        let got = self.calls.settle(&mut self.field[start..end], budget);
+        self.figures.answer("settle", want.refusal);
+        self.figures.settled += u64::from(want.steps);
+        self.figures.quiet += u64::from(want.quiet);
+        self.figures.longest = self.figures.longest.max(want.steps);
+        self.check(|| format!("settle {budget}"), want, got)
+    }
+
+    /// Tallies on both sides.
+    pub fn tally(&mut self, who: u16, day: u16) -> Result<Day, String> {
+        let (start, end) = (self.start, self.end());
+        let want = self.model.tally(who, day);
+        let got = self.calls.tally(&self.field[start..end], who, day);
+        self.figures.answer("tally", want.refusal);
+        self.check(|| format!("tally {who} {day}"), want, got)
+    }
+
+    /// Compares the answers, every byte of the bank, and the guards.
+    fn check<T: PartialEq + Debug>(
+        &mut self,
+        call: impl Fn() -> String,
+        want: T,
+        got: T,
+    ) -> Result<T, String> {
+        self.made += 1;
+        let bank = &self.field[self.start..self.end()];
+        let guards = (0..self.start).chain(self.end()..self.field.len());
+        let broken = guards.filter(|&place| self.field[place] != guard(place));
+        let broken: Vec<usize> = broken.collect();
+        if want == got && bank == self.model.bytes() && broken.is_empty() {
+            return Ok(want);
+        }
+        let mut text = format!("call {}: {}\n", self.made, call());
+        text += &format!("  answer: model {want:?}, tested {got:?}\n");
+        text += &differing(self.model.bytes(), bank);
+        for place in broken {
+            let place = place as i64 - self.start as i64;
+            text += &format!("  guard byte at {place} from the bank's start was changed\n");
+        }
+        Err(text)
+    }
+}
+
+/// The first bytes that differ, a line each.
+fn differing(model: &[u8], tested: &[u8]) -> String {
+    let pairs = model.iter().zip(tested).enumerate();
+    let mut lines: Vec<String> = pairs
+        .filter(|(_, (want, got))| want != got)
+        .map(|(place, (want, got))| {
+            let name = word_name(place / 2);
+            format!("  byte {place} ({name}): model {want:02X}, tested {got:02X}\n")
+        })
+        .collect();
+    let all = lines.len();
+    lines.truncate(8);
+    if all > 8 {
+        lines.push(format!("  and {} bytes more\n", all - 8));
+    }
+    lines.concat()
+}
+
+/// What a word of the bank stands for.
+fn word_name(place: usize) -> String {
+    const PARTS: [(usize, &str); 3] = [
+        (layout::FLIGHT, "in flight"),
+        (layout::UNSENT, "unsent"),
+        (layout::ACKED, "acked"),
+    ];
+    match place {
+        0..=3 => ["N", "mode", "messages", "up"][place].to_string(),
+        4..=19 => format!("taken up by {}", place - 4),
+        20..=35 => format!("log length of {}", place - 20),
+        36..=547 => format!("log of {} at {}", (place - 36) / 32, (place - 36) % 32),
+        _ => {
+            let (message, word) = ((place - 548) / 53, (place - 548) % 53);
+            let part = PARTS.iter().find(|(first, _)| word >= *first);
+            match part {
+                Some((first, name)) => format!("message {message}, {name} of {}", word - first),
+                None => {
+                    let name = ["sender", "stamp", "value", "held", "delivered"][word];
+                    format!("message {message}, {name}")
+                }
+            }
+        }
+    }
+}

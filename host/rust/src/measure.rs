@@ -1,0 +1,103 @@
+//! Two things timed in turn, round by round: medians, the ratio and its spread.
+
+use std::fmt;
+use std::time::Duration;
+
+/// The times of two things, a pair a round.
+#[derive(Clone, Debug)]
+pub struct Row {
+    name: String,
+    ours: Vec<f64>,
+    plain: Vec<f64>,
+}
+
+impl Row {
+    /// Times both in turn, the order changing each round, after one round that does not count.
+    ///
+    /// Each closure hands back the time it took; `pieces` is how many calls that time covers.
+    pub fn measure(
+        name: &str,
+        rounds: usize,
+        pieces: usize,
+        mut ours: impl FnMut() -> Duration,
+        mut plain: impl FnMut() -> Duration,
+    ) -> Row {
+        let each = |time: Duration| time.as_secs_f64() / pieces as f64;
+        let mut row = Row {
+            name: name.to_string(),
+            ours: Vec::new(),
+            plain: Vec::new(),
+        };
+        (ours(), plain());
+        for round in 0..rounds {
+            if round % 2 == 0 {
+                row.ours.push(each(ours()));
+                row.plain.push(each(plain()));
+            } else {
+                row.plain.push(each(plain()));
+                row.ours.push(each(ours()));
+            }
+        }
+        row
+    }
+
+    /// The ratio of ours to plain in each round, the smallest first.
+    fn ratios(&self) -> Vec<f64> {
+        let pairs = self.ours.iter().zip(&self.plain);
+        sorted(pairs.map(|(ours, plain)| ours / plain).collect())
+    }
+
+    /// The heading under which rows stand.
+    pub fn heading() -> String {
+        format!(
+            "{:<44} {:>11} {:>11} {:>7}  {:<15} {:>6}",
+            "", "ours", "plain Rust", "ratio", "spread 10-90 %", "rounds"
+        )
+    }
+}
+
+fn sorted(mut values: Vec<f64>) -> Vec<f64> {
+    values.sort_by(f64::total_cmp);
+    values
+}
+
+/// The value that a part, from 0 to 1, of sorted values lies below.
+fn quantile(values: &[f64], part: f64) -> f64 {
+    let last = values.len().saturating_sub(1);
+    values
+        .get((last as f64 * part).round() as usize)
+        .copied()
+        .unwrap_or(f64::NAN)
+}
+
+/// Seconds in a readable unit.
+fn time(seconds: f64) -> String {
+    match seconds {
+        s if s < 1e-6 => format!("{:.1} ns", s * 1e9),
+        s if s < 1e-3 => format!("{:.2} us", s * 1e6),
+        s if s < 1.0 => format!("{:.2} ms", s * 1e3),
+        s => format!("{s:.2} s"),
+    }
+}
+
+impl fmt::Display for Row {
+    fn fmt(&self, f: &mut fmt::Formatter) -> fmt::Result {
+        let middle = |values: &Vec<f64>| quantile(&sorted(values.clone()), 0.5);
+        let ratios = self.ratios();
+        let spread = format!(
+            "{:.2} - {:.2}",
+            quantile(&ratios, 0.1),
+            quantile(&ratios, 0.9)
+        );
+        write!(
+            f,
+            "{:<44} {:>11} {:>11} {:>7.2}  {:<15} {:>6}",
+            self.name,
+            time(middle(&self.ours)),
+            time(middle(&self.plain)),
+            quantile(&ratios, 0.5),
+            spread,
+            ratios.len()
+        )
+    }
+}

@@ -1,0 +1,48 @@
+//! Faults that can be planted in the rules, so that a comparison can show it finds them.
+
+/// A small fault in the rules.
+#[derive(Clone, Copy, PartialEq, Eq, Debug)]
+pub enum Plant {
+    /// Half the acknowledgements pass for a majority.
+    Half,
+    /// The sender's broadcast counts as its own acknowledgement.
+    OwnAck,
+    /// A crash clears the copies that its controller has in flight.
+    ClearFlight,
+    /// A copy that comes after delivery is dropped, its acknowledgement too.
+    DropLate,
+    /// Delivery asks who is up, not whom the controller takes to be up.
+    UpSet,
+    /// The last quarter hour of a day counts for the next day.
+    Midnight,
+    /// The settler says that steps are left whenever its budget is spent.
+    Budget,
+    /// The settler looks for receipts before sends.
+    Order,
+    /// A set word that changes loses its bits of N and above.
+    HighBits,
+}
+
+impl Plant {
+    /// Every fault with the name it has on a command line.
+    pub const ALL: [(&'static str, Plant); 9] = [
+        ("half", Plant::Half),
+        ("own-ack", Plant::OwnAck),
+        ("clear-flight", Plant::ClearFlight),
+        ("drop-late", Plant::DropLate),
+        ("up-set", Plant::UpSet),
+        ("midnight", Plant::Midnight),
+        ("budget", Plant::Budget),
+        ("order", Plant::Order),
+        ("high-bits", Plant::HighBits),
+    ];
+
+    /// The fault of that name.
+    pub fn named(name: &str) -> Result<Plant, String> {
+        let known = Plant::ALL.iter().find(|(known, _)| *known == name);
+        known.map(|&(_, plant)| plant).ok_or_else(|| {
+            let names: Vec<&str> = Plant::ALL.iter().map(|(known, _)| *known).collect();
+            format!("no fault '{name}'; there are {}", names.join(", "))
+        })
+    }
+}

@@ -1,0 +1,167 @@
+//! A small generator that gives the same numbers for the same seed, and the steps and days drawn from it.
+
+use crate::day::{LAST_DAY, QUARTERS};
+use crate::refusal::DONE;
+use crate::rules::Group;
+use crate::step::Step;
+
+/// The generator: splitmix64.
+#[derive(Clone, Debug)]
+pub struct Random(u64);
+
+impl Random {
+    /// A generator for one case of one seed.
+    pub fn new(seed: u64, case: u64) -> Random {
+        let mut first = Random(seed);
+        Random(first.next() ^ case.wrapping_mul(0xD1B5_4A32_D192_ED03))
+    }
+
+    /// The next 64 bits.
+    pub fn next(&mut self) -> u64 {
+        self.0 = self.0.wrapping_add(0x9E37_79B9_7F4A_7C15);
+        let mut z = self.0;
+        z = (z ^ (z >> 30)).wrapping_mul(0xBF58_476D_1CE4_E5B9);
+        z = (z ^ (z >> 27)).wrapping_mul(0x94D0_49BB_1331_11EB);
+        z ^ (z >> 31)
+    }
+
+    /// A number below `limit`, which is not 0.
+    pub fn below(&mut self, limit: usize) -> usize {
+        ((self.next() >> 32) * limit as u64 >> 32) as usize
+    }
+
+    /// A u16 below `limit`, which is not 0.
+    pub fn under(&mut self, limit: u16) -> u16 {
+        self.below(usize::from(limit)) as u16
+    }
+
+    /// Any u16.
+    pub fn word(&mut self) -> u16 {
+        (self.next() >> 48) as u16
+    }
+
+    /// True in so many of a hundred cases.
+    pub fn chance(&mut self, percent: usize) -> bool {
+        self.below(100) < percent
+    }
+
+    /// One of these.
+    pub fn pick<T: Copy>(&mut self, these: &[T]) -> T {
+        these[self.below(these.len())]
+    }
+
+    /// Any bytes.
+    pub fn bytes(&mut self, length: usize) -> Vec<u8> {
+        (0..length).map(|_| (self.next() >> 56) as u8).collect()
+    }
+
+    /// A number of controllers, small ones more often.
+    pub fn controllers(&mut self) -> u16 {
+        if self.chance(60) {
+            1 + self.under(5)
+        } else {
+            1 + self.under(16)
+        }
+    }
+
+    /// A stamp, often at the edge of a day.
+    pub fn stamp(&mut self) -> u16 {
+        const EDGES: [u16; 11] = [
+            0, 95, 96, 191, 192, 65_375, 65_376, 65_471, 65_472, 65_534, 65_535,
+        ];
+        match self.below(3) {
+            0 => self.pick(&EDGES),
+            1 => self.under(400),
+            _ => self.word(),
+        }
+    }
+
+    /// A reading, sometimes the largest.
+    pub fn value(&mut self) -> u16 {
+        match self.below(4) {
+            0 => self.pick(&[0, 1, 32_767, 32_768, 65_534, 65_535]),
+            _ => self.word(),
+        }
+    }
+
+    /// A day, often near the edges or near a message's own.
+    pub fn day(&mut self, group: Option<&Group>) -> u16 {
+        let stamps = group.map_or(&[][..], |group| &group.messages);
+        if !stamps.is_empty() && self.chance(50) {
+            let own = stamps[self.below(stamps.len())].stamp / QUARTERS;
+            return own.wrapping_add(self.pick(&[0, 0, 0, 1, u16::MAX]));
+        }
+        match self.below(4) {
+            0 => self.under(LAST_DAY + 3),
+            1 => self.word(),
+            _ => self.pick(&DAYS),
+        }
+    }
+
+    /// Four numbers of a step that is often allowed.
+    pub fn likely_step(&mut self, group: &Group) -> [u16; 4] {
+        const KINDS: [u16; 24] = [
+            1, 1, 2, 2, 2, 2, 2, 2, 3, 3, 3, 3, 3, 3, 3, 4, 4, 4, 4, 6, 6, 7, 7, 5,
+        ];
+        let kind = match group.messages.len() {
+            0 => self.pick(&[1, 1, 1, 1, 5, 6]),
+            _ => self.pick(&KINDS),
+        };
+        let who = self.under(group.n);
+        let count = group.messages.len().max(1);
+        let message = self.below(count) as u16;
+        match kind {
+            1 => [1, who, self.stamp(), self.value()],
+            4 => [4, who, message, 0],
+            5 if self.chance(70) => [3, who, self.under(group.n), message],
+            5 => [5, who, 0, 0],
+            6 => self.with_other(group, |other| [6, who, other, 0]),
+            _ => self.with_other(group, |other| [kind, who, other, message]),
+        }
+    }
+
+    /// Tries the other controller from a random start on, until the step is allowed.
+    fn with_other(&mut self, group: &Group, step: impl Fn(u16) -> [u16; 4]) -> [u16; 4] {
+        let start = self.under(group.n);
+        let allowed =
+            |four: &[u16; 4]| Step::read(*four).is_some_and(|step| group.refusal(step) == DONE);
+        (0..group.n)
+            .map(|turn| step((start + turn) % group.n))
+            .find(allowed)
+            .unwrap_or_else(|| step(start))
+    }
+
+    /// A number at the edge of some limit, or any.
+    fn edge(&mut self, group: Option<&Group>) -> u16 {
+        const EDGES: [u16; 14] = [
+            0, 1, 15, 16, 17, 31, 32, 33, 255, 256, 32_767, 32_768, 65_534, 65_535,
+        ];
+        let (n, count) = group.map_or((3, 2), |group| (group.n, group.messages.len() as u16));
+        match self.below(5) {
+            0 => self.pick(&EDGES),
+            1 => self.pick(&[n - 1, n, n + 1, count.saturating_sub(1), count, count + 1]),
+            2 => self.word(),
+            _ => self.under(n),
+        }
+    }
+
+    /// Four numbers without sense, or a likely step with one number spoilt.
+    pub fn garbage_step(&mut self, group: Option<&Group>) -> [u16; 4] {
+        if let Some(group) = group.filter(|_| self.chance(50)) {
+            let mut four = self.likely_step(group);
+            let place = self.below(4);
+            four[place] = self.edge(Some(group));
+            return four;
+        }
+        let kind = match self.below(8) {
+            0 => self.word(),
+            1 => self.pick(&[0, 8, 9, 16, 17, 257, 263, 65_535]),
+            _ => 1 + self.under(7),
+        };
+        let [a, b, c] = [0; 3].map(|_: u16| self.edge(group));
+        [kind, a, b, if self.chance(30) { 0 } else { c }]
+    }
+}
+
+/// The days at the edges.
+pub const DAYS: [u16; 8] = [0, 1, 2, 681, 682, 683, 684, 65_535];
