@@ -3,3 +3,4 @@ mod Digits
 mod Words
 pub mod Members
 pub mod Counts
+pub mod Least

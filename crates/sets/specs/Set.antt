@@ -55,7 +55,7 @@ setOf p (suc n) = setOf p n + cond (p n) (2 ^ n) 0
 unfoldable pub less : ℕ → ℕ → ℕ
 less u w = setOf (λ i. has u i && not (has w i)) 16
 
--- the least of k numbers from i on that passes a test, i + k where none does; the lowest member below n, n where there is none
+-- the least of k numbers from i on that passes a test, i + k where none does; a set's lowest member below n, else n
 unfoldable pub leastFrom : (ℕ → Bool) → ℕ → ℕ → ℕ
 leastFrom p i zero = i
 leastFrom p i (suc k) = let later = leastFrom p (suc i) k in cond (p i) i later
