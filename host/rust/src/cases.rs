@@ -32,13 +32,13 @@ pub struct Setting<'a> {
 
 impl Case {
     fn draw(random: &mut Random) -> Case {
-        match random.below(1000) {
-            0..400 => Case::Short,
-            400..650 => Case::Long,
-            650..651 => Case::Full,
-            651..850 => Case::Spoilt,
-            850..900 => Case::Unfit(random.pick(&Unfit::ALL)),
-            900..930 => Case::Opening,
+        match random.below(4000) {
+            0..1600 => Case::Short,
+            1600..2600 => Case::Long,
+            2600..2601 => Case::Full,
+            2601..3400 => Case::Spoilt,
+            3400..3600 => Case::Unfit(random.pick(&Unfit::ALL)),
+            3600..3720 => Case::Opening,
             _ => Case::Days,
         }
     }
@@ -131,7 +131,8 @@ fn weight(contest: &Contest) -> usize {
 
 /// A settling that ends, at its exact budget or far below.
 fn last_settle(contest: &mut Contest, random: &mut Random) -> Done {
-    if weight(contest) > 1_500 {
+    let most = if random.chance(5) { 2_000 } else { 500 };
+    if weight(contest) > most {
         return contest.settle(random.under(80)).map(drop);
     }
     let steps = contest.group().cloned().map_or(0, |mut group| {
@@ -144,8 +145,10 @@ fn last_settle(contest: &mut Contest, random: &mut Random) -> Done {
 }
 
 fn opened(contest: &mut Contest, random: &mut Random, calls: usize) -> Done {
-    contest.open(random.controllers(), 1 + random.under(2))?;
-    for _ in 0..10 + random.below(calls) {
+    let n = random.controllers();
+    contest.open(n, 1 + random.under(2))?;
+    let most = calls.min(40 + 40 * usize::from(n) * usize::from(n));
+    for _ in 0..10 + random.below(most) {
         any_call(contest, random)?;
     }
     if random.chance(40) {

@@ -66,6 +66,7 @@ pub struct Contest<'a> {
     calls: &'a dyn Calls,
     model: Bank,
     field: Vec<u8>,
+    guards: Vec<u8>,
     start: usize,
     made: u64,
     figures: &'a mut Figures,
@@ -82,12 +83,14 @@ impl<'a> Contest<'a> {
     ) -> Contest<'a> {
         let start = GUARD + random.below(4);
         let end = start + bytes.len();
-        let mut field: Vec<u8> = (0..end + GUARD).map(guard).collect();
+        let guards: Vec<u8> = (0..end + GUARD).map(guard).collect();
+        let mut field = guards.clone();
         field[start..end].copy_from_slice(bytes);
         Contest {
             calls,
             model: Bank::planted(bytes, plant),
             field,
+            guards,
             start,
             made: 0,
             figures,
@@ -153,19 +156,21 @@ impl<'a> Contest<'a> {
         got: T,
     ) -> Result<T, String> {
         self.made += 1;
-        let bank = &self.field[self.start..self.end()];
-        let guards = (0..self.start).chain(self.end()..self.field.len());
-        let broken = guards.filter(|&place| self.field[place] != guard(place));
-        let broken: Vec<usize> = broken.collect();
-        if want == got && bank == self.model.bytes() && broken.is_empty() {
+        let (start, end) = (self.start, self.end());
+        let bank = &self.field[start..end];
+        let whole =
+            self.field[..start] == self.guards[..start] && self.field[end..] == self.guards[end..];
+        if want == got && bank == self.model.bytes() && whole {
             return Ok(want);
         }
         let mut text = format!("call {}: {}\n", self.made, call());
         text += &format!("  answer: model {want:?}, tested {got:?}\n");
         text += &differing(self.model.bytes(), bank);
-        for place in broken {
-            let place = place as i64 - self.start as i64;
-            text += &format!("  guard byte at {place} from the bank's start was changed\n");
+        for place in (0..start).chain(end..self.field.len()) {
+            if self.field[place] != self.guards[place] {
+                let place = place as i64 - start as i64;
+                text += &format!("  guard byte at {place} from the bank's start was changed\n");
+            }
         }
         Err(text)
     }

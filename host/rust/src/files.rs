@@ -24,10 +24,12 @@ pub fn step_record(step: Step) -> Vec<u8> {
 }
 
 /// What a file is, by name.
-pub const KINDS: [&str; 20] = [
+pub const KINDS: [&str; 22] = [
     "whole",
     "whole",
     "refused step",
+    "refused step",
+    "any step",
     "refused open",
     "empty",
     "not begun by open",
@@ -53,7 +55,10 @@ pub fn file(random: &mut Random) -> (&'static str, Vec<u8>) {
         return long_file(random);
     }
     let name = random.pick(&KINDS);
-    let records = whole(random);
+    let (mut records, group) = whole(random);
+    if name == "refused step" {
+        records.push(refused_step(random, &group));
+    }
     (name, damaged(random, name, records))
 }
 
@@ -81,14 +86,26 @@ fn full(random: &mut Random) -> Vec<u8> {
     bytes
 }
 
-/// Records that are all accepted, most of the time.
-fn whole(random: &mut Random) -> Records {
-    let n = random.controllers();
-    let mode = 1 + random.under(2);
-    let mut records = vec![record(&[OPEN, n, mode])];
-    let Ok(mut group) = Group::open(n, mode) else {
-        return records;
-    };
+/// An opened group of any size.
+fn any_group(random: &mut Random) -> Group {
+    loop {
+        if let Ok(group) = Group::open(random.controllers(), 1 + random.under(2)) {
+            return group;
+        }
+    }
+}
+
+/// Records that are all accepted, and the group after them.
+fn whole(random: &mut Random) -> (Records, Group) {
+    let mut group = any_group(random);
+    let n = usize::from(group.n);
+    let mut records = vec![record(&[OPEN, group.n, group.mode.number()])];
+    if random.chance(2) {
+        (0..32).for_each(|stamp| {
+            records.push(record(&[1, 0, stamp, 7]));
+            let _ = group.step([1, 0, stamp, 7]);
+        });
+    }
     let length = random.pick(&[3, 10, 30, 30, 100]);
     for _ in 0..random.below(length) {
         if random.chance(4) {
@@ -99,10 +116,12 @@ fn whole(random: &mut Random) -> Records {
             records.push(step_record(step));
         }
     }
-    if random.chance(40) && usize::from(n) * usize::from(n) * group.messages.len() < 800 {
-        records.push(record(&[SETTLE, random.pick(&[1_000, u16::MAX])]));
+    if random.chance(40) && n * n * group.messages.len() < 500 {
+        let budget = random.pick(&[1_000, u16::MAX]);
+        group.settle(budget);
+        records.push(record(&[SETTLE, budget]));
     }
-    records
+    (records, group)
 }
 
 /// Puts a record somewhere after the opening.
@@ -142,8 +161,37 @@ fn odd_length(random: &mut Random) -> Vec<u8> {
     bytes
 }
 
-/// A step that the group at the start of the file mostly refuses.
-fn refused_step(random: &mut Random) -> Vec<u8> {
+/// A step that this group refuses for a reason drawn first, if one is soon found.
+fn refused_step(random: &mut Random, group: &Group) -> Vec<u8> {
+    let wanted = random.pick(&[3, 4, 5, 6, 7, 8, 9, 9, 10, 10]);
+    let mut last = record(&[5, group.n]);
+    for _ in 0..300 {
+        let kind = 1 + random.under(7);
+        let who = random.under(group.n + 1);
+        let other = random.under(group.n + 1);
+        let message = random.below(group.messages.len() + 1) as u16;
+        let four = match kind {
+            4 => [4, who, message, 0],
+            5 => [5, who, 0, 0],
+            6 => [6, who, other, 0],
+            _ => [kind, who, other, message],
+        };
+        let Some(step) = Step::read(four) else {
+            continue;
+        };
+        let refusal = group.refusal(step);
+        if refusal != DONE {
+            last = step_record(step);
+        }
+        if refusal == wanted {
+            break;
+        }
+    }
+    last
+}
+
+/// A step without regard to the group.
+fn any_step(random: &mut Random) -> Vec<u8> {
     loop {
         let four = random.garbage_step(None);
         if let Some(step) = Step::read(four) {
@@ -173,7 +221,7 @@ fn other_open(random: &mut Random) -> Vec<u8> {
 /// The file with one damage.
 fn damaged(random: &mut Random, name: &str, mut records: Records) -> Vec<u8> {
     let new = match name {
-        "refused step" => Some(refused_step(random)),
+        "any step" => Some(any_step(random)),
         "later open" => {
             let numbers = random.below(5);
             Some(record(&[&[OPEN, 3][..], &vec![1; numbers]].concat()))
@@ -269,7 +317,7 @@ pub fn full_of_steps() -> Vec<u8> {
     let settle = record(&[SETTLE, 0]);
     for step in steps {
         let left = LONGEST - bytes.len();
-        if left < 100 && left % settle.len() == 0 {
+        if left < 100 && left.is_multiple_of(settle.len()) {
             break;
         }
         bytes.extend(step_record(step));

@@ -28,7 +28,8 @@ impl Row {
             ours: Vec::new(),
             plain: Vec::new(),
         };
-        (ours(), plain());
+        ours();
+        plain();
         for round in 0..rounds {
             if round % 2 == 0 {
                 row.ours.push(each(ours()));

@@ -13,11 +13,11 @@ impl Random {
     /// A generator for one case of one seed.
     pub fn new(seed: u64, case: u64) -> Random {
         let mut first = Random(seed);
-        Random(first.next() ^ case.wrapping_mul(0xD1B5_4A32_D192_ED03))
+        Random(first.bits() ^ case.wrapping_mul(0xD1B5_4A32_D192_ED03))
     }
 
     /// The next 64 bits.
-    pub fn next(&mut self) -> u64 {
+    pub fn bits(&mut self) -> u64 {
         self.0 = self.0.wrapping_add(0x9E37_79B9_7F4A_7C15);
         let mut z = self.0;
         z = (z ^ (z >> 30)).wrapping_mul(0xBF58_476D_1CE4_E5B9);
@@ -27,7 +27,7 @@ impl Random {
 
     /// A number below `limit`, which is not 0.
     pub fn below(&mut self, limit: usize) -> usize {
-        ((self.next() >> 32) * limit as u64 >> 32) as usize
+        (((self.bits() >> 32) * limit as u64) >> 32) as usize
     }
 
     /// A u16 below `limit`, which is not 0.
@@ -37,7 +37,7 @@ impl Random {
 
     /// Any u16.
     pub fn word(&mut self) -> u16 {
-        (self.next() >> 48) as u16
+        (self.bits() >> 48) as u16
     }
 
     /// True in so many of a hundred cases.
@@ -52,7 +52,7 @@ impl Random {
 
     /// Any bytes.
     pub fn bytes(&mut self, length: usize) -> Vec<u8> {
-        (0..length).map(|_| (self.next() >> 56) as u8).collect()
+        (0..length).map(|_| (self.bits() >> 56) as u8).collect()
     }
 
     /// A number of controllers, small ones more often.
@@ -98,36 +98,62 @@ impl Random {
         }
     }
 
-    /// Four numbers of a step that is often allowed.
+    /// A controller, mostly one that is up.
+    fn who(&mut self, group: &Group) -> u16 {
+        let start = self.under(group.n);
+        if self.chance(4) {
+            return start;
+        }
+        (0..group.n)
+            .map(|turn| (start + turn) % group.n)
+            .find(|&who| group.up.has(who))
+            .unwrap_or(start)
+    }
+
+    /// Four numbers of a step that is mostly allowed.
     pub fn likely_step(&mut self, group: &Group) -> [u16; 4] {
-        const KINDS: [u16; 24] = [
-            1, 1, 2, 2, 2, 2, 2, 2, 3, 3, 3, 3, 3, 3, 3, 4, 4, 4, 4, 6, 6, 7, 7, 5,
+        const KINDS: [u16; 32] = [
+            1, 2, 2, 2, 2, 2, 2, 2, 2, 2, 2, 2, 3, 3, 3, 3, 3, 3, 3, 3, 3, 3, 3, 4, 4, 4, 4, 5, 6,
+            6, 7, 7,
         ];
         let kind = match group.messages.len() {
             0 => self.pick(&[1, 1, 1, 1, 5, 6]),
             _ => self.pick(&KINDS),
         };
-        let who = self.under(group.n);
-        let count = group.messages.len().max(1);
-        let message = self.below(count) as u16;
+        let few = 2 * group.up.count() <= usize::from(group.n) + 1;
         match kind {
-            1 => [1, who, self.stamp(), self.value()],
-            4 => [4, who, message, 0],
-            5 if self.chance(70) => [3, who, self.under(group.n), message],
-            5 => [5, who, 0, 0],
-            6 => self.with_other(group, |other| [6, who, other, 0]),
-            _ => self.with_other(group, |other| [kind, who, other, message]),
+            5 if few && self.chance(90) => self.tried(group, 3),
+            1 => [1, self.who(group), self.stamp(), self.value()],
+            5 => [5, self.who(group), 0, 0],
+            _ => self.tried(group, kind),
         }
+    }
+
+    /// A step of this kind for a few controllers and messages in turn, until one is allowed.
+    fn tried(&mut self, group: &Group, kind: u16) -> [u16; 4] {
+        let mut step = [0; 4];
+        for _ in 0..6 {
+            let who = self.who(group);
+            let message = self.below(group.messages.len().max(1)) as u16;
+            step = match kind {
+                4 => [4, who, message, 0],
+                6 => self.with_other(group, |other| [6, who, other, 0]),
+                7 => self.with_other(group, |other| [7, other, who, message]),
+                _ => self.with_other(group, |other| [kind, who, other, message]),
+            };
+            if allowed(group, step) {
+                break;
+            }
+        }
+        step
     }
 
     /// Tries the other controller from a random start on, until the step is allowed.
     fn with_other(&mut self, group: &Group, step: impl Fn(u16) -> [u16; 4]) -> [u16; 4] {
         let start = self.under(group.n);
-        let allowed =
-            |four: &[u16; 4]| Step::read(*four).is_some_and(|step| group.refusal(step) == DONE);
         (0..group.n)
             .map(|turn| step((start + turn) % group.n))
-            .find(allowed)
+            .find(|&four| allowed(group, four))
             .unwrap_or_else(|| step(start))
     }
 
@@ -161,6 +187,11 @@ impl Random {
         let [a, b, c] = [0; 3].map(|_: u16| self.edge(group));
         [kind, a, b, if self.chance(30) { 0 } else { c }]
     }
+}
+
+/// Whether the group would take this step.
+fn allowed(group: &Group, four: [u16; 4]) -> bool {
+    Step::read(four).is_some_and(|step| group.refusal(step) == DONE)
 }
 
 /// The days at the edges.

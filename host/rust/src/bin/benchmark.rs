@@ -6,6 +6,7 @@ use std::path::{Path, PathBuf};
 use std::process::{Command, ExitCode, Stdio};
 use std::time::{Duration, Instant};
 
+use loargwen_host::answer::Day;
 use loargwen_host::bank::Bank;
 use loargwen_host::contest::{Calls, Plain};
 use loargwen_host::face::Archive;
@@ -22,9 +23,9 @@ goes first. The plain settler searches from the start for each step, candidate b
 'on words' keeps the plain bank as words; 'on bytes' has the plain version turn the same 4,488
 bytes into words and back for each call. One step through Rattle words is not measured here.";
 
-fn timed(work: impl FnOnce()) -> Duration {
+fn timed<T>(work: impl FnOnce() -> T) -> Duration {
     let began = Instant::now();
-    work();
+    black_box(work());
     began.elapsed()
 }
 
@@ -74,11 +75,11 @@ fn settle_row(name: &str, bytes: &[u8], rounds: usize) -> Row {
         1,
         || {
             ours.copy_from_slice(bytes);
-            timed(|| drop(black_box(Archive.settle(black_box(&mut ours), u16::MAX))))
+            timed(|| Archive.settle(black_box(&mut ours), u16::MAX))
         },
         || {
             let mut bank = start;
-            timed(|| drop(black_box(words::settle(black_box(&mut bank), u16::MAX))))
+            timed(|| words::settle(black_box(&mut bank), u16::MAX))
         },
     )
 }
@@ -127,10 +128,12 @@ fn step_rows() -> Vec<Row> {
 }
 
 /// Every controller's tally for each of 40 days.
-fn tally_all(tally: impl Fn(u16, u16)) -> Duration {
+fn tally_all(tally: impl Fn(u16, u16) -> Day) -> Duration {
     timed(|| {
         for day in 0..40 {
-            (0..16).for_each(|who| tally(who, day));
+            for who in 0..16 {
+                black_box(tally(who, day));
+            }
         }
     })
 }
@@ -139,11 +142,9 @@ fn tally_rows() -> Vec<Row> {
     let mut bytes = full_bank(1);
     Plain.settle(&mut bytes, u16::MAX);
     let bank = words::from_bytes(&bytes).unwrap_or([0; BYTES / 2]);
-    let ours = || tally_all(|who, day| drop(black_box(Archive.tally(black_box(&bytes), who, day))));
-    let on_words =
-        || tally_all(|who, day| drop(black_box(words::tally(black_box(&bank), who, day))));
-    let on_bytes =
-        || tally_all(|who, day| drop(black_box(Plain.tally(black_box(&bytes), who, day))));
+    let ours = || tally_all(|who, day| Archive.tally(black_box(&bytes), who, day));
+    let on_words = || tally_all(|who, day| words::tally(black_box(&bank), who, day));
+    let on_bytes = || tally_all(|who, day| Plain.tally(black_box(&bytes), who, day));
     vec![
         Row::measure(
             "the tally, 32 entries; plain on words",

@@ -1,0 +1,20 @@
+-- Numbers as the bench prints them, in ASCII bytes.
+use Prim.Native.Nat.{ℕ, zero, suc, _+_, _/_, _%_}
+use mathlib.Core.Bool.{Bool, true, false, cond}
+use mathlib.Core.List.{List, [], _∷_, _++_}
+use lib.Dec.{ltb}
+
+-- a number in decimal, without leading zeros; d digits at the most are looked at, and ten are enough for any u32
+unfoldable pub decimalIn : ℕ → ℕ → List ℕ
+decimalIn zero x = []
+decimalIn (suc d) x = cond (ltb x 10) [] (decimalIn d (x / 10)) ++ ((48 + x % 10) ∷ [])
+
+abbrev pub decimal : ℕ → List ℕ
+decimal x = decimalIn 10 x
+
+-- a hex digit in capitals, and a word in four of them
+abbrev pub hexDigit : ℕ → ℕ
+hexDigit x = cond (ltb x 10) (48 + x) (55 + x)
+
+abbrev pub hex : ℕ → List ℕ
+hex w = hexDigit (w / 4096 % 16) ∷ hexDigit (w / 256 % 16) ∷ hexDigit (w / 16 % 16) ∷ hexDigit (w % 16) ∷ []
