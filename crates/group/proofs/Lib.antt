@@ -14,4 +14,3 @@ pub mod Kept
 pub mod Runs
 pub mod Asking
 pub mod Determined
-pub mod Cases

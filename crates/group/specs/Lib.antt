@@ -9,4 +9,3 @@ pub mod Writes
 pub mod Promises
 pub mod Lists
 pub mod Logs
-pub mod Cases

@@ -2,10 +2,9 @@
 
 use crate::bank::Unfit;
 use crate::banks;
-use crate::contest::{Calls, Contest};
+use crate::contest::{Contest, Setting};
 use crate::figures::Figures;
 use crate::layout;
-use crate::plant::Plant;
 use crate::random::{Random, DAYS};
 
 /// What one case is about.
@@ -18,16 +17,6 @@ enum Case {
     Unfit(Unfit),
     Opening,
     Days,
-}
-
-/// What a case runs on.
-pub struct Setting<'a> {
-    /// The calls under test.
-    pub calls: &'a dyn Calls,
-    /// The fault in the model, if any.
-    pub plant: Option<Plant>,
-    /// The seed of the whole comparison.
-    pub seed: u64,
 }
 
 impl Case {
@@ -60,6 +49,11 @@ impl Case {
     }
 }
 
+/// The name of the case of this number.
+pub fn name(seed: u64, number: u64) -> &'static str {
+    Case::draw(&mut Random::new(seed, number)).name()
+}
+
 /// Runs the case of this number; a difference is described.
 pub fn run(setting: &Setting, number: u64, figures: &mut Figures) -> Result<(), String> {
     let mut random = Random::new(setting.seed, number);
@@ -74,7 +68,7 @@ pub fn run(setting: &Setting, number: u64, figures: &mut Figures) -> Result<(), 
         _ if random.chance(50) => random.bytes(layout::BYTES),
         _ => vec![0; layout::BYTES],
     };
-    let mut contest = Contest::new(setting.calls, &bytes, setting.plant, random, figures);
+    let mut contest = Contest::new(setting, &bytes, random, figures);
     let done = match case {
         Case::Short => opened(&mut contest, random, 60),
         Case::Long => opened(&mut contest, random, 1_500),

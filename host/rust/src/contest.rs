@@ -53,8 +53,17 @@ impl Calls for Plain {
     }
 }
 
-/// Guard bytes before and after a bank.
-const GUARD: usize = 64;
+/// What a comparison runs on.
+pub struct Setting<'a> {
+    /// The calls under test.
+    pub calls: &'a dyn Calls,
+    /// The fault in the model, if any.
+    pub plant: Option<Plant>,
+    /// The seed of the whole comparison.
+    pub seed: u64,
+    /// Guard bytes before and after a bank; with none, a bank is an allocation of its own.
+    pub guard: usize,
+}
 
 /// The guard byte at a place of the field.
 fn guard(place: usize) -> u8 {
@@ -73,22 +82,22 @@ pub struct Contest<'a> {
 }
 
 impl<'a> Contest<'a> {
-    /// Lends these bytes to both sides, at any alignment.
+    /// Lends these bytes to both sides, at any alignment when there are guard bytes.
     pub fn new(
-        calls: &'a dyn Calls,
+        setting: &Setting<'a>,
         bytes: &[u8],
-        plant: Option<Plant>,
         random: &mut Random,
         figures: &'a mut Figures,
     ) -> Contest<'a> {
-        let start = GUARD + random.below(4);
+        let shift = random.below(4);
+        let start = setting.guard + shift.min(setting.guard);
         let end = start + bytes.len();
-        let guards: Vec<u8> = (0..end + GUARD).map(guard).collect();
+        let guards: Vec<u8> = (0..end + setting.guard).map(guard).collect();
         let mut field = guards.clone();
         field[start..end].copy_from_slice(bytes);
         Contest {
-            calls,
-            model: Bank::planted(bytes, plant),
+            calls: setting.calls,
+            model: Bank::planted(bytes, setting.plant),
             field,
             guards,
             start,

@@ -310,8 +310,9 @@ pub fn full_of_steps() -> Vec<u8> {
     };
     for message in 0..32 {
         let four = [1, message % n, 96 * message + 7, 1_000 + message];
-        debug_assert_eq!(group.step(four).map_or_else(|no| no, |_| DONE), DONE);
-        bytes.extend(record(&four));
+        if group.step(four).is_ok() {
+            bytes.extend(record(&four));
+        }
     }
     let (steps, _) = group.settle(6_700);
     let settle = record(&[SETTLE, 0]);

@@ -10,9 +10,10 @@
 //! - `plant`: faults that can be planted in the rules, which a comparison has to find;
 //! - `args`, `measure`: what the programs share.
 //!
-//! `compare SEED STEPS [--minutes M] [--case K] [--plant NAME]`,
-//! `files BENCH SEED COUNT [--case K] [--plant NAME]`, `benchmark [BENCH]`,
-//! and `plain`, the bench on the straightforward version.
+//! Programs: `compare` (the archive, random calls), `files` (the bench, random files), `benchmark`
+//! (ratios), `plain` (the bench on the straightforward version). Without arguments the first two
+//! say how they are called. `compare` and `benchmark` need the feature `archive` and, when built,
+//! LOARGWEN_LIB, the folder of libloargwen.a.
 
 pub mod answer;
 pub mod args;

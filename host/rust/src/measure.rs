@@ -48,6 +48,12 @@ impl Row {
         sorted(pairs.map(|(ours, plain)| ours / plain).collect())
     }
 
+    /// The median time of ours and of plain, in seconds.
+    pub fn medians(&self) -> (f64, f64) {
+        let middle = |values: &[f64]| quantile(&sorted(values.to_vec()), 0.5);
+        (middle(&self.ours), middle(&self.plain))
+    }
+
     /// The heading under which rows stand.
     pub fn heading() -> String {
         format!(
@@ -72,7 +78,7 @@ fn quantile(values: &[f64], part: f64) -> f64 {
 }
 
 /// Seconds in a readable unit.
-fn time(seconds: f64) -> String {
+pub fn time(seconds: f64) -> String {
     match seconds {
         s if s < 1e-6 => format!("{:.1} ns", s * 1e9),
         s if s < 1e-3 => format!("{:.2} us", s * 1e6),
@@ -83,7 +89,7 @@ fn time(seconds: f64) -> String {
 
 impl fmt::Display for Row {
     fn fmt(&self, f: &mut fmt::Formatter) -> fmt::Result {
-        let middle = |values: &Vec<f64>| quantile(&sorted(values.clone()), 0.5);
+        let (ours, plain) = self.medians();
         let ratios = self.ratios();
         let spread = format!(
             "{:.2} - {:.2}",
@@ -94,8 +100,8 @@ impl fmt::Display for Row {
             f,
             "{:<44} {:>11} {:>11} {:>7.2}  {:<15} {:>6}",
             self.name,
-            time(middle(&self.ours)),
-            time(middle(&self.plain)),
+            time(ours),
+            time(plain),
             quantile(&ratios, 0.5),
             spread,
             ratios.len()

@@ -1,7 +1,7 @@
 //! The model against the plain version on random cases; every number reached; planted faults found.
 
-use loargwen_host::cases::{self, Setting};
-use loargwen_host::contest::Plain;
+use loargwen_host::cases;
+use loargwen_host::contest::{Plain, Setting};
 use loargwen_host::figures::Figures;
 use loargwen_host::plant::Plant;
 
@@ -12,6 +12,7 @@ fn setting(plant: Option<Plant>) -> Setting<'static> {
         calls: &Plain,
         plant,
         seed: 5,
+        guard: 64,
     }
 }
 
@@ -37,6 +38,20 @@ fn the_plain_version_agrees_and_every_number_is_reached() {
     reached("tally", &[0, 1, 3, 14]);
     assert_eq!(figures.kinds.len(), 7);
     assert!(figures.cases.len() >= 10, "{figures}");
+}
+
+#[test]
+fn without_guards_the_cases_are_the_same() {
+    let (mut with, mut without) = (Figures::default(), Figures::default());
+    let bare = Setting {
+        guard: 0,
+        ..setting(None)
+    };
+    for number in 0..100 {
+        assert!(cases::run(&setting(None), number, &mut with).is_ok());
+        assert!(cases::run(&bare, number, &mut without).is_ok());
+    }
+    assert_eq!(with.to_string(), without.to_string());
 }
 
 #[test]

@@ -1,7 +1,9 @@
 //! Both sides of each line of the scope: the cases it lists, on the rules of plain sets.
 
+use loargwen_host::random::Random;
 use loargwen_host::rules::Group;
 use loargwen_host::set::Set;
+use loargwen_host::step::Step;
 
 /// An opened group after these steps, all of them accepted.
 fn group(n: u16, mode: u16, steps: &[[u16; 4]]) -> Group {
@@ -194,4 +196,43 @@ fn a_full_group_settles_within_the_bound() {
         settle(&mut all_up, u16::MAX),
         (2 * 256 * 32 + 16 * 32, true)
     );
+}
+
+#[test]
+fn no_run_from_opening_passes_the_bound() {
+    for case in 0..300 {
+        let mut random = Random::new(31, case);
+        let n = 1 + random.under(6);
+        let mut group = group(n, 1 + random.under(2), &[]);
+        let mut taken = 0;
+        for _ in 0..400 {
+            if let Ok(step) = group.step(random.likely_step(&group)) {
+                let counted = !matches!(step.numbers()[0], 1 | 5 | 7);
+                taken += usize::from(counted);
+            }
+        }
+        let (steps, quiet) = group.settle(u16::MAX);
+        assert!(quiet && steps.iter().all(|step| !matches!(step, Step::Lose { .. })));
+        let (n, c) = (usize::from(n), group.messages.len());
+        assert!(taken + steps.len() <= 2 * n * n * c + n * c + n * (n - 1));
+    }
+}
+
+#[test]
+fn nobody_delivers_twice_and_two_that_deliver_do_not_part() {
+    for case in 0..200 {
+        let mut random = Random::new(32, case);
+        let mut group = group(1 + random.under(6), 1 + random.under(2), &[]);
+        for _ in 0..300 {
+            let _ = group.step(random.likely_step(&group));
+        }
+        group.settle(u16::MAX);
+        for (who, log) in group.logs.iter().enumerate() {
+            for (number, message) in group.messages.iter().enumerate() {
+                let times = log.iter().filter(|&&entry| usize::from(entry) == number);
+                let delivered = message.delivered.has(who as u16);
+                assert_eq!(times.count(), usize::from(delivered));
+            }
+        }
+    }
 }

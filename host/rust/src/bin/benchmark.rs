@@ -11,11 +11,12 @@ use loargwen_host::bank::Bank;
 use loargwen_host::contest::{Calls, Plain};
 use loargwen_host::face::Archive;
 use loargwen_host::layout::BYTES;
-use loargwen_host::measure::Row;
+use loargwen_host::measure::{time, Row};
 use loargwen_host::random::Random;
 use loargwen_host::{banks, files, words};
 
 const STEPS: usize = 4_000;
+const PROCESSES: usize = 10;
 const NOTE: &str = "\
 cleared first: nothing on the machine; both sides get a fresh copy of the same bank before each
 timed piece, outside the timing, and one round that does not count. Rounds alternate which side
@@ -85,7 +86,7 @@ fn settle_row(name: &str, bytes: &[u8], rounds: usize) -> Row {
 }
 
 /// Applies all steps to a fresh copy of the bank's bytes.
-fn step_all(calls: &dyn Calls, bytes: &[u8], steps: &[[u16; 4]]) -> Duration {
+fn step_all(calls: &impl Calls, bytes: &[u8], steps: &[[u16; 4]]) -> Duration {
     let mut bank = bytes.to_vec();
     timed(|| {
         for &step in steps {
@@ -163,17 +164,19 @@ fn tally_rows() -> Vec<Row> {
     ]
 }
 
-/// The time a program takes on a file, start and end included.
-fn process(program: &Path, input: &Path) -> Duration {
-    timed(|| {
-        let file = File::open(input).expect("the file just written opens");
-        let output = Command::new(program)
-            .stdin(file)
-            .stdout(Stdio::piped())
-            .output()
-            .expect("the program runs");
-        black_box(output.stdout);
-    })
+/// The time a program takes on a file, ten times over, start and end included.
+fn processes(program: &Path, input: &Path) -> Duration {
+    timed(|| (0..PROCESSES).for_each(|_| process(program, input)))
+}
+
+fn process(program: &Path, input: &Path) {
+    let file = File::open(input).expect("the file just written opens");
+    let output = Command::new(program)
+        .stdin(file)
+        .stdout(Stdio::piped())
+        .output()
+        .expect("the program runs");
+    black_box(output.stdout);
 }
 
 /// The bench against the plain bench, each as a process, on one file.
@@ -184,10 +187,10 @@ fn file_row(name: &str, bench: &Path, input: &[u8]) -> std::io::Result<Row> {
     let plain: PathBuf = std::env::current_exe()?.with_file_name("plain");
     let row = Row::measure(
         name,
-        51,
-        1,
-        || process(bench, &path),
-        || process(&plain, &path),
+        31,
+        PROCESSES,
+        || processes(bench, &path),
+        || processes(&plain, &path),
     );
     std::fs::remove_file(&path)?;
     Ok(row)
@@ -196,13 +199,17 @@ fn file_row(name: &str, bench: &Path, input: &[u8]) -> std::io::Result<Row> {
 fn file_rows(bench: &Path) -> std::io::Result<()> {
     let full = files::full_of_steps();
     let one = files::record(&[16, 3, 1]);
+    let full = file_row("a bench file of 65,536 bytes, as processes", bench, &full)?;
+    let one = file_row("a bench file of 8 bytes, as processes", bench, &one)?;
+    println!("{full}\n{one}");
+    let ((ours, plain), (our_start, plain_start)) = (full.medians(), one.medians());
+    let (ours, plain) = (ours - our_start, plain - plain_start);
     println!(
-        "{}",
-        file_row("a bench file of 65,536 bytes, as processes", bench, &full)?
-    );
-    println!(
-        "{}",
-        file_row("a bench file of 8 bytes, as processes", bench, &one)?
+        "{:<44} {:>11} {:>11} {:>7.2}  (the two medians' difference)",
+        "the long file less the short one",
+        time(ours),
+        time(plain),
+        ours / plain
     );
     Ok(())
 }

@@ -4,14 +4,20 @@ use std::process::ExitCode;
 use std::time::{Duration, Instant};
 
 use loargwen_host::args::Args;
-use loargwen_host::cases::{self, Setting};
+use loargwen_host::cases;
+use loargwen_host::contest::Setting;
 use loargwen_host::face::Archive;
 use loargwen_host::figures::Figures;
 use loargwen_host::plant::Plant;
 
-const USAGE: &str = "usage: compare SEED STEPS [--minutes M] [--case K] [--plant NAME]
+const USAGE: &str =
+    "usage: compare SEED STEPS [--minutes M] [--case K] [--only NAME] [--guard BYTES]
+                          [--plant NAME]
   runs cases until STEPS single steps were compared and, with --minutes, until time is up;
-  --case runs that case alone; --plant puts a fault into the model, which must be found";
+  --case runs that case alone, --only those of one name (spoilt, 'unfit log', days, ...);
+  --guard 0 makes each bank an allocation of its own, for valgrind (64 else);
+  --plant puts a fault into the model, which must be found";
+const FLAGS: [&str; 5] = ["minutes", "case", "only", "guard", "plant"];
 
 /// What the command line asks for.
 struct Request {
@@ -19,12 +25,14 @@ struct Request {
     steps: u64,
     time: Duration,
     case: Option<u64>,
+    only: Option<String>,
+    guard: usize,
     plant: Option<Plant>,
     planted: String,
 }
 
 fn request() -> Result<Request, String> {
-    let args = Args::read(std::env::args().skip(1), &["minutes", "case", "plant"])?;
+    let args = Args::read(std::env::args().skip(1), &FLAGS)?;
     let minutes: f64 = args.flag_number("minutes")?.unwrap_or(0.0);
     let planted = args.flag("plant").map(|name| format!(" --plant {name}"));
     Ok(Request {
@@ -32,6 +40,8 @@ fn request() -> Result<Request, String> {
         steps: args.number(1, "STEPS")?,
         time: Duration::try_from_secs_f64(60.0 * minutes).map_err(|error| error.to_string())?,
         case: args.flag_number("case")?,
+        only: args.flag("only").map(str::to_string),
+        guard: args.flag_number("guard")?.unwrap_or(64),
         plant: args.flag("plant").map(Plant::named).transpose()?,
         planted: planted.unwrap_or_default(),
     })
@@ -43,11 +53,15 @@ fn run(request: &Request, figures: &mut Figures) -> Result<(), (u64, String)> {
         calls: &Archive,
         plant: request.plant,
         seed: request.seed,
+        guard: request.guard,
     };
     let began = Instant::now();
     let mut number = request.case.unwrap_or(0);
     loop {
-        cases::run(&setting, number, figures).map_err(|text| (number, text))?;
+        let only = request.only.as_deref();
+        if only.is_none_or(|name| name == cases::name(request.seed, number)) {
+            cases::run(&setting, number, figures).map_err(|text| (number, text))?;
+        }
         let enough = figures.calls("step") >= request.steps && began.elapsed() >= request.time;
         if enough || request.case.is_some() {
             return Ok(());

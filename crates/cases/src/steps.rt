@@ -1,0 +1,97 @@
+// One step: each refusal number, by each kind that can give it.
+use crate::say;
+use group::Bank;
+
+// A bank of n controllers.
+pub(crate) fn opened(n: u16, mode: u16) -> [u16; Bank::WORDS] {
+    let mut bank = [0u16; Bank::WORDS];
+    group::open(&mut bank, n, mode);
+    bank
+}
+
+fn unfit() {
+    let mut bank = opened(3, 1);
+    bank[Bank::MODE] = 3;
+    say::refusal(b"step in an unfit bank", group::step(&mut bank, 5, 0, 0, 0));
+    say::refusal(b"step of no kind in an unfit bank", group::step(&mut bank, 9, 0, 0, 0));
+}
+
+fn not_asked() {
+    let mut bank = opened(3, 1);
+    say::refusal(b"kind 0", group::step(&mut bank, 0, 0, 0, 0));
+    say::refusal(b"kind 8", group::step(&mut bank, 8, 0, 0, 0));
+    say::refusal(b"deliver with a third number", group::step(&mut bank, 4, 0, 0, 1));
+    say::refusal(b"crash with a second number", group::step(&mut bank, 5, 0, 1, 0));
+    say::refusal(b"detect with a third number", group::step(&mut bank, 6, 0, 1, 1));
+}
+
+fn not_there() {
+    let mut bank = opened(3, 1);
+    say::refusal(b"broadcast by controller 3 of 3", group::step(&mut bank, 1, 3, 0, 0));
+    say::refusal(b"send to controller 3 of 3", group::step(&mut bank, 2, 0, 3, 0));
+    say::refusal(b"detect of controller 3 of 3", group::step(&mut bank, 6, 0, 3, 0));
+    say::refusal(b"send of a message not given", group::step(&mut bank, 2, 0, 1, 0));
+    say::refusal(b"deliver of a message not given", group::step(&mut bank, 4, 0, 0, 0));
+}
+
+fn down() {
+    let mut bank = opened(3, 2);
+    say::refusal(b"detect in majority mode", group::step(&mut bank, 6, 0, 1, 0));
+    say::refusal(b"crash", group::step(&mut bank, 5, 0, 0, 0));
+    say::refusal(b"broadcast by one that is down", group::step(&mut bank, 1, 0, 0, 0));
+    say::refusal(b"crash of one that is down", group::step(&mut bank, 5, 0, 0, 0));
+    say::refusal(b"detect in majority mode by one that is down", group::step(&mut bank, 6, 0, 1, 0));
+}
+
+fn copies() {
+    let mut bank = opened(3, 1);
+    say::refusal(b"broadcast", group::step(&mut bank, 1, 0, 95, 7));
+    say::refusal(b"send of a copy not to be sent", group::step(&mut bank, 2, 1, 0, 0));
+    say::refusal(b"receive of a copy not in flight", group::step(&mut bank, 3, 1, 0, 0));
+    say::refusal(b"lose of a copy not in flight", group::step(&mut bank, 7, 0, 1, 0));
+    say::refusal(b"deliver of a message not held", group::step(&mut bank, 4, 1, 0, 0));
+    say::refusal(b"deliver with acknowledgements missing", group::step(&mut bank, 4, 0, 0, 0));
+    say::refusal(b"send", group::step(&mut bank, 2, 0, 1, 0));
+    say::refusal(b"the same send again", group::step(&mut bank, 2, 0, 1, 0));
+    say::refusal(b"lose with both ends up", group::step(&mut bank, 7, 0, 1, 0));
+    say::refusal(b"detect of one that is up", group::step(&mut bank, 6, 1, 0, 0));
+    say::refusal(b"crash of the sender", group::step(&mut bank, 5, 0, 0, 0));
+    say::refusal(b"send by one that is down", group::step(&mut bank, 2, 0, 2, 0));
+    say::refusal(b"detect of one that is down", group::step(&mut bank, 6, 1, 0, 0));
+    say::refusal(b"the same detect again", group::step(&mut bank, 6, 1, 0, 0));
+    say::refusal(b"lose with the sender down", group::step(&mut bank, 7, 0, 1, 0));
+}
+
+fn deliveries() {
+    let mut bank = opened(1, 1);
+    group::step(&mut bank, 1, 0, 0, 0);
+    group::step(&mut bank, 2, 0, 0, 0);
+    group::step(&mut bank, 3, 0, 0, 0);
+    let mut spoilt = bank;
+    say::refusal(b"deliver", group::step(&mut bank, 4, 0, 0, 0));
+    say::refusal(b"a second deliver", group::step(&mut bank, 4, 0, 0, 0));
+    spoilt[Bank::LENGTHS] = 1;
+    say::refusal(b"deliver into a full log", group::step(&mut spoilt, 4, 0, 0, 0));
+}
+
+// Broadcast 32 is fine, the 33rd is not.
+fn broadcasts() {
+    let mut bank = opened(16, 1);
+    let mut last = 0;
+    for m in 0..31 {
+        last = group::step(&mut bank, 1, m % 16, m, m);
+    }
+    say::refusal(b"broadcast 31", last);
+    say::refusal(b"broadcast 32", group::step(&mut bank, 1, 15, 65535, 65535));
+    say::refusal(b"broadcast 33", group::step(&mut bank, 1, 0, 0, 0));
+}
+
+pub(crate) fn show() {
+    unfit();
+    not_asked();
+    not_there();
+    down();
+    copies();
+    deliveries();
+    broadcasts();
+}

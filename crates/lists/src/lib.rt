@@ -1,0 +1,31 @@
+// A Rattle caller's own list of step records, walked by one thin function over the group's single step.
+ghost use Rattle.lists.specs.Records.{StepsPromise};
+
+use group::Ran;
+
+// One step: its kind and three numbers.
+pub struct Step {
+    pub kind: u16,
+    pub a: u16,
+    pub b: u16,
+    pub c: u16,
+}
+
+// Applies the steps in order up to the first refusal; what was applied before it stays and is counted.
+pub fn run_steps(bank: &mut [u16], steps: &[Step]) -> Ran
+    ensures { λ r. ⌜ StepsPromise (now (bank .entry)) (now (steps .entry)) (r .accepted) (r .refusal) (now (bank .exit)) ⌝ }
+{
+    if !group::fit(bank) {
+        return Ran { accepted: 0, refusal: 1 };
+    }
+    let mut i: usize = 0;
+    while i < steps.len() {
+        let s = steps[i];
+        let r = group::step(bank, s.kind, s.a, s.b, s.c);
+        if r != 0 {
+            return Ran { accepted: i, refusal: r };
+        }
+        i += 1;
+    }
+    Ran { accepted: i, refusal: 0 }
+}
