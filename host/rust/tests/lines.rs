@@ -219,7 +219,7 @@ fn no_run_from_opening_passes_the_bound() {
 }
 
 #[test]
-fn nobody_delivers_twice_and_two_that_deliver_do_not_part() {
+fn a_log_holds_what_was_delivered_once_each() {
     for case in 0..200 {
         let mut random = Random::new(32, case);
         let mut group = group(1 + random.under(6), 1 + random.under(2), &[]);
