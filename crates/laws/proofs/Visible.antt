@@ -99,6 +99,14 @@ module _ (L : Layout) where
   unfolding visible
   seen-out w p h = rw h
 
+  pub seen-nothing : (p : Place) → visible (λ p. 0) p ≡ 0
+  unfolding visible
+  seen-nothing p = go (keyIn (key p))
+    where
+      go : (t : Bool) → _≡_ {A = ℕ} (cond t 0 0) 0
+      go true = refl
+      go false = refl
+
   pub seen-outside : (w : Words) (m : ℕ) (f : Field) → (FieldIn L f → ⊥) → visible w (message m f) ≡ 0
   seen-outside w m f h = seen-out w (message m f) (go (ltb (index f) (getD (recordWidths L) (run f) 0)) refl)
     where

@@ -59,6 +59,22 @@ impl Case {
     }
 }
 
+/// The names that cases have.
+pub const NAMES: [&str; 12] = [
+    "short run",
+    "long run",
+    "full group",
+    "full spoilt",
+    "spoilt",
+    "unfit length",
+    "unfit N",
+    "unfit mode",
+    "unfit messages",
+    "unfit log",
+    "opening",
+    "days",
+];
+
 /// The name of the case of this number.
 pub fn name(seed: u64, number: u64) -> &'static str {
     Case::draw(&mut Random::new(seed, number), number).name()

@@ -37,7 +37,10 @@ fn the_plain_version_agrees_and_every_number_is_reached() {
     reached("settle", &[0, 1]);
     reached("tally", &[0, 1, 3, 14]);
     assert_eq!(figures.kinds.len(), 7);
-    assert!(figures.cases.len() >= 10, "{figures}");
+    for name in cases::NAMES {
+        assert!(figures.cases.contains_key(name), "no case '{name}'");
+    }
+    assert_eq!(figures.cases.len(), cases::NAMES.len());
 }
 
 #[test]

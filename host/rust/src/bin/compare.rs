@@ -28,22 +28,43 @@ struct Request {
     only: Option<String>,
     guard: usize,
     plant: Option<Plant>,
-    planted: String,
+    again: String,
+}
+
+/// The flags that a case needs when it is run again.
+fn again(args: &Args) -> String {
+    let kept = ["guard", "plant"].map(|name| (name, args.flag(name)));
+    let flags = kept
+        .into_iter()
+        .filter_map(|(name, value)| Some((name, value?)));
+    flags
+        .map(|(name, value)| format!(" --{name} {value}"))
+        .collect()
+}
+
+/// The name after `--only`, which must be one that cases have.
+fn only(args: &Args) -> Result<Option<String>, String> {
+    match args.flag("only") {
+        Some(name) if !cases::NAMES.contains(&name) => Err(format!(
+            "no case '{name}'; there are {}",
+            cases::NAMES.join(", ")
+        )),
+        name => Ok(name.map(str::to_string)),
+    }
 }
 
 fn request() -> Result<Request, String> {
     let args = Args::read(std::env::args().skip(1), &FLAGS)?;
     let minutes: f64 = args.flag_number("minutes")?.unwrap_or(0.0);
-    let planted = args.flag("plant").map(|name| format!(" --plant {name}"));
     Ok(Request {
         seed: args.number(0, "SEED")?,
         steps: args.number(1, "STEPS")?,
         time: Duration::try_from_secs_f64(60.0 * minutes).map_err(|error| error.to_string())?,
         case: args.flag_number("case")?,
-        only: args.flag("only").map(str::to_string),
+        only: only(&args)?,
         guard: args.flag_number("guard")?.unwrap_or(64),
         plant: args.flag("plant").map(Plant::named).transpose()?,
-        planted: planted.unwrap_or_default(),
+        again: again(&args),
     })
 }
 
@@ -63,7 +84,7 @@ fn run(request: &Request, figures: &mut Figures) -> Result<(), (u64, String)> {
             cases::run(&setting, number, figures).map_err(|text| (number, text))?;
         }
         let enough = figures.calls("step") >= request.steps && began.elapsed() >= request.time;
-        if enough || request.case.is_some() {
+        if request.case.is_some() || enough && !figures.cases.is_empty() {
             return Ok(());
         }
         number += 1;
@@ -88,8 +109,8 @@ fn main() -> ExitCode {
             ExitCode::SUCCESS
         }
         Err((number, text)) => {
-            let (seed, planted) = (request.seed, request.planted);
-            println!("difference: {text}  again: compare {seed} 0 --case {number}{planted}");
+            let (seed, again) = (request.seed, request.again);
+            println!("difference: {text}  again: compare {seed} 0 --case {number}{again}");
             ExitCode::FAILURE
         }
     }

@@ -1,0 +1,84 @@
+-- At the end, on banks: what anybody has delivered, and what a sender that is up has broadcast, is once in every log.
+use mathlib.Core.Path.{_≡_, refl, sym, ap, ap₂, subst, _∙_}
+use mathlib.Core.Bool.{Bool, true, false, cond}
+use mathlib.Core.Logic.{_⊎_, inl, inr}
+use mathlib.Core.List.{List}
+use Prim.Native.Nat.{ℕ, _<_}
+use native.Mathlib.Omega.{arith}
+use Rattle.sets.specs.Set.{has, tally, countBelow}
+use Rattle.group.specs.Place.{members, mode, count, up, message, sender, held, delivered}
+use Rattle.group.specs.Layout.{Layout, words}
+use Rattle.group.specs.Fit.{Fit, allAck, majority}
+use Rattle.group.specs.Step.{Step}
+use Rattle.group.specs.Refusals.{isUp, holding, hasDelivered}
+use Rattle.group.specs.Logs.{logOf}
+use Rattle.group.specs.Promises.{Allowed}
+use Rattle.laws.specs.Sets.{Sets, Ok, Quorate}
+use Rattle.laws.specs.Runs.{Ended, Settling}
+use Rattle.laws.specs.Logs.{occurs}
+use Rattle.laws.specs.Demand.{Reached, Quorum}
+use Rattle.laws.proofs.Visible.{visible, seen-in}
+use Rattle.laws.proofs.Bridge.{recordSets, sets}
+use Rattle.laws.proofs.Steps.{setsOf}
+use Rattle.laws.proofs.Keep.{Inv}
+use Rattle.laws.proofs.End
+use Rattle.laws.proofs.Lifting.{reached-inv}
+use Rattle.laws.proofs.Ends.{reached-fit, reached-logs, quiet-sets}
+
+module _ (L : Layout) {n k : ℕ} {before : List Step} {x : List ℕ} (r : Reached L n k before x) where
+  fx : Fit L x
+  fx = reached-fit L n k r
+
+  -- the sets of a message below the count are its words'
+  shown-delivered : (m i : ℕ) → m < words L x count → setsOf L x .message m .delivered i ≡ hasDelivered (words L x) i m
+  unfolding setsOf sets recordSets
+  shown-delivered m i l =
+      ap (λ w. has w i) (seen-in L (words L x) (message m delivered) (omega (arith, fx .given), omega arith))
+
+  shown-held : (m i : ℕ) → m < words L x count → setsOf L x .message m .held i ≡ holding (words L x) i m
+  unfolding setsOf sets recordSets
+  shown-held m i l = ap (λ w. has w i) (seen-in L (words L x) (message m held) (omega (arith, fx .given), omega arith))
+
+  shown-up : (i : ℕ) → setsOf L x .up i ≡ isUp (words L x) i
+  unfolding setsOf sets visible
+  shown-up i = refl
+
+  shown-count : setsOf L x .count ≡ words L x count
+  unfolding setsOf sets visible
+  shown-count = refl
+
+  shown-sender : (m : ℕ) → m < words L x count → setsOf L x .message m .sender ≡ words L x (message m sender)
+  unfolding setsOf sets recordSets
+  shown-sender m l = seen-in L (words L x) (message m sender) (omega (arith, fx .given), omega arith)
+
+  quorate : Quorum L x → Quorate (setsOf L x)
+  unfolding setsOf sets visible countBelow
+  quorate q = q
+
+  inside : (j : ℕ) → isUp (words L x) j ≡ true → j < words L x members
+  unfolding setsOf sets visible
+  inside j u = reached-inv L r .inside j u
+
+  -- ---- at the end
+
+  module _ (z : Ended (Settling (Allowed L)) x) (q : Quorum L x) (m : ℕ) (g : m < words L x count) where
+    once : (j : ℕ) → isUp (words L x) j ≡ true → setsOf L x .message m .delivered j ≡ true → occurs m (logOf L x j) ≡ 1
+    once j u d =
+        reached-logs L n k r .once j m (inside j u) g ∙ ap (λ t. cond t 1 0) (sym (shown-delivered m j g) ∙ d)
+
+    ended : Ended (Settling (Ok (L .messages))) (setsOf L x)
+    ended = quiet-sets L n k r z
+
+    pub agreement : (i j : ℕ) → hasDelivered (words L x) i m ≡ true → isUp (words L x) j ≡ true
+        → occurs m (logOf L x j) ≡ 1
+    agreement i j d u =
+        once j u
+        (End.agreement (L .messages) (setsOf L x) (reached-inv L r) ended m (subst (λ c. m < c) (sym shown-count) g)
+        (quorate q) i j (shown-delivered m i g ∙ d) (shown-up j ∙ u))
+
+    pub validity : (j : ℕ) → isUp (words L x) (words L x (message m sender)) ≡ true → isUp (words L x) j ≡ true
+        → occurs m (logOf L x j) ≡ 1
+    validity j s u =
+        once j u
+        (End.validity (L .messages) (setsOf L x) (reached-inv L r) ended m (subst (λ c. m < c) (sym shown-count) g)
+        (quorate q) j (shown-up _ ∙ ap (isUp (words L x)) (shown-sender m g) ∙ s) (shown-up j ∙ u))

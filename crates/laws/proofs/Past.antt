@@ -1,0 +1,133 @@
+-- What settling leaves alone: stamps and values, the logs of controllers that are not there, words past a log's end.
+use mathlib.Core.Path.{_≡_, refl, sym, ap, _∙_}
+use mathlib.Core.Bool.{Bool, true, false, cond, not, _&&_, _||_, false≢true}
+use mathlib.Core.List.{List}
+use Prim.Native.Nat.{ℕ, _+_, _≤_, _<_}
+use native.Mathlib.Nat.{lt-irrefl}
+use native.Mathlib.Omega.{arith}
+use lib.Dec.{eqb, ltb}
+use borrow.Author.Tests.{eq-eqb, eqb-true, ltb-true}
+use Rattle.group.specs.Place.{Place, Words, members, logLength, log, message, stamp, value}
+use Rattle.group.specs.Layout.{Layout, words}
+use Rattle.group.specs.Step.{Step, broadcast, send, receive, deliver, crash, detect, lose}
+use Rattle.group.specs.Promises.{Allowed, after}
+use Rattle.group.proofs.Places.{key, PlaceIn}
+use Rattle.laws.specs.Sets.{settles}
+use Rattle.laws.specs.Runs.{Run, done, next, Settling}
+use Rattle.laws.proofs.Untouched.{keeps, word-after, untouched}
+
+-- a word that is written only where two numbers are equal
+unless : (a b v x : ℕ) → (a ≡ b → ⊥) → cond (eqb a b && true) v x ≡ x
+unless a b v x h = go (eqb a b) refl
+  where
+    go : (t : Bool) → eqb a b ≡ t → cond (t && true) v x ≡ x
+    go true e = absurd (h (eqb-true a b e))
+    go false e = refl
+
+-- two numbers at once
+unless-both : (a b c d v x : ℕ) → ((a ≡ b) × (c ≡ d) → ⊥) → cond (eqb a b && eqb c d) v x ≡ x
+unless-both a b c d v x h = go (eqb a b) refl (eqb c d) refl
+  where
+    go : (s : Bool) → eqb a b ≡ s → (t : Bool) → eqb c d ≡ t → cond (s && t) v x ≡ x
+    go true e true f = absurd (h (eqb-true a b e, eqb-true c d f))
+    go true e false f = refl
+    go false e t f = refl
+
+-- the sender, stamp and value of a record, by their run
+said-stays : (w : Words) (s : Step) (r m : ℕ) → settles s ≡ true → ltb r 3 ≡ true → eqb r 4 ≡ false
+    → keeps w s (record { region = 7; run = r; index = 0; row = m }) ≡ true
+said-stays w (broadcast who s v) r m e l z = absurd (false≢true e)
+said-stays w (send from to k) r m e l z = ap (λ t. t || eqb r 4) l
+said-stays w (receive i from k) r m e l z = ap (λ t. t || eqb r 4) l
+said-stays w (deliver i k) r m e l z = ap not z
+said-stays w (crash who) r m e l z = absurd (false≢true e)
+said-stays w (detect i j) r m e l z = ap (λ t. t || eqb r 4) l
+said-stays w (lose from to k) r m e l z = absurd (false≢true e)
+
+module _ (L : Layout) where
+  -- what every settling step leaves alone a run of them does
+  kept : (p : Place) → PlaceIn L p → ((w : Words) (s : Step) → settles s ≡ true → keeps w s (key p) ≡ true)
+      → {b x : List ℕ} {es : List Step} → Run (Settling (Allowed L)) (after L) b es x → words L x p ≡ words L b p
+  kept p l h done = refl
+  kept p l h {b} (next {e = e} (s, a) r) = kept p l h r ∙ untouched L b e a p l (h (words L b) e s)
+
+  pub stamp-kept : (m : ℕ) → m < L .messages → {b x : List ℕ} {es : List Step}
+      → Run (Settling (Allowed L)) (after L) b es x → words L x (message m stamp) ≡ words L b (message m stamp)
+  stamp-kept m l r = kept (message m stamp) (l, omega arith) (λ w s e. said-stays w s 1 m e refl refl) r
+
+  pub value-kept : (m : ℕ) → m < L .messages → {b x : List ℕ} {es : List Step}
+      → Run (Settling (Allowed L)) (after L) b es x → words L x (message m value) ≡ words L b (message m value)
+  value-kept m l r = kept (message m value) (l, omega arith) (λ w s e. said-stays w s 2 m e refl refl) r
+
+  pub members-kept : {b x : List ℕ} {es : List Step} → Run (Settling (Allowed L)) (after L) b es x
+      → words L x members ≡ words L b members
+  members-kept r = kept members tt (λ w s e. refl) r
+
+  -- ---- lengths and logs, which only a deliver touches
+
+  pub record LogStep (b c : List ℕ) (i : ℕ) : Type 0 where
+    pub grows : words L b (logLength i) ≤ words L c (logLength i)
+    pub absent : words L b members ≤ i → words L c (logLength i) ≡ words L b (logLength i)
+    pub past : (k : ℕ) → k < L .messages → words L c (logLength i) ≤ k → words L c (log i k) ≡ words L b (log i k)
+
+  -- a step that touches neither
+  still : (b : List ℕ) (s : Step) → Allowed L b s → (i : ℕ) → i < L .controllers
+      → keeps (words L b) s (key (logLength i)) ≡ true → ((k : ℕ) → keeps (words L b) s (key (log i k)) ≡ true)
+      → LogStep b (after L b s) i
+  still b s a i l h g =
+      let e = untouched L b s a (logLength i) l h in
+      record {
+        grows = omega (arith, e);
+        absent = λ _. e;
+        past = λ k j _. untouched L b s a (log i k) (l, j) (g k);
+      }
+
+  delivered-step : (b : List ℕ) (j m : ℕ) → Allowed L b (deliver j m) → (i : ℕ) → i < L .controllers
+      → LogStep b (after L b (deliver j m)) i
+  delivered-step b j m a i l =
+      record {
+        grows = go (eqb j i) refl;
+        absent = λ h. here ∙ unless j i _ _ (λ e. lt-irrefl j (omega (arith, ltb-true j (words L b members) (a .free .0))));
+        past = λ k h g.
+            word-after L b (deliver j m) a (log i k) (l, h)
+            ∙ unless-both (words L b (logLength j)) k j i m _
+            (λ e. lt-irrefl k (omega (arith, g, taken (e .1), e .0)));
+      }
+    where
+      here : words L (after L b (deliver j m)) (logLength i)
+          ≡ cond (eqb j i && true) (words L b (logLength j) + 1) (words L b (logLength i))
+      here = word-after L b (deliver j m) a (logLength i) l
+
+      taken : j ≡ i → words L (after L b (deliver j m)) (logLength i) ≡ words L b (logLength j) + 1
+      taken e =
+          here
+          ∙ ap (λ t. cond (t && true) (words L b (logLength j) + 1) (words L b (logLength i))) (eq-eqb j i e)
+
+      go : (t : Bool) → eqb j i ≡ t → words L b (logLength i) ≤ words L (after L b (deliver j m)) (logLength i)
+      go true e =
+          let q = eqb-true j i e in
+          omega (arith, taken q, ap (λ x. words L b (logLength x)) q)
+      go false e =
+          omega (arith, here ∙ ap (λ t. cond (t && true) (words L b (logLength j) + 1) (words L b (logLength i))) e)
+
+  log-step : (b : List ℕ) (s : Step) → settles s ≡ true → Allowed L b s → (i : ℕ) → i < L .controllers
+      → LogStep b (after L b s) i
+  log-step b (broadcast who s v) e a i l = absurd (false≢true e)
+  log-step b (send from to m) e a i l = still b (send from to m) a i l refl (λ k. refl)
+  log-step b (receive j from m) e a i l = still b (receive j from m) a i l refl (λ k. refl)
+  log-step b (deliver j m) e a i l = delivered-step b j m a i l
+  log-step b (crash who) e a i l = absurd (false≢true e)
+  log-step b (detect j h) e a i l = still b (detect j h) a i l refl (λ k. refl)
+  log-step b (lose from to m) e a i l = absurd (false≢true e)
+
+  pub log-run : (i : ℕ) → i < L .controllers → {b x : List ℕ} {es : List Step}
+      → Run (Settling (Allowed L)) (after L) b es x → LogStep b x i
+  log-run i l done = record { grows = omega arith; absent = λ _. refl; past = λ k j g. refl }
+  log-run i l {b} {x} (next {e = e} (s, a) r) =
+      let h = log-step b e s a i l in
+      let g = log-run i l r in
+      record {
+        grows = omega (arith, h .grows, g .grows);
+        absent = λ q. g .absent (omega (arith, members-kept (next (s, a) done))) ∙ h .absent q;
+        past = λ k j q. g .past k j q ∙ h .past k j (omega (arith, g .grows));
+      }

@@ -1,0 +1,53 @@
+-- What demand 3 speaks of: a group that was opened, any accepted steps, then settling steps until none is left.
+use Prim.Native.Nat.{ℕ, _*_, _≤_, _<_}
+use mathlib.Core.Path.{_≡_}
+use mathlib.Core.Bool.{Bool, true, false}
+use mathlib.Core.Logic.{_⊎_}
+use mathlib.Core.List.{List}
+use lib.ListN.{length}
+use Rattle.sets.specs.Set.{countBelow}
+use Rattle.group.specs.Place.{Place, members, mode, count, up, view, logLength, log, message}
+use Rattle.group.specs.Layout.{Layout, words}
+use Rattle.group.specs.Fit.{isSize, isMode, allAck}
+use Rattle.group.specs.Opening.{opened}
+use Rattle.group.specs.Step.{Step}
+use Rattle.group.specs.Logs.{logOf}
+use Rattle.group.specs.Promises.{Allowed, after}
+use Rattle.group.proofs.Places.{PlaceIn}
+use Rattle.laws.specs.Runs.{Run, Ended, Settling}
+use Rattle.laws.specs.Logs.{occurs}
+
+-- accepted steps, crashes and losses included, from a group of n in mode k that was opened
+pub record Reached (L : Layout) (n k : ℕ) (before : List Step) (b : List ℕ) : Type 0 where
+  pub sized : isSize L n ≡ true
+  pub known : isMode k ≡ true
+  pub run : Run (Allowed L) (after L) (opened L n k) before b
+
+-- from there only sends, receipts, detects and deliveries, until none is left
+pub record Finished (L : Layout) (b : List ℕ) (es : List Step) (x : List ℕ) : Type 0 where
+  pub run : Run (Settling (Allowed L)) (after L) b es x
+  pub ended : Ended (Settling (Allowed L)) x
+
+-- an entry of a log
+abbrev pub isEntry : Place → Bool
+isEntry members = false
+isEntry mode = false
+isEntry count = false
+isEntry up = false
+isEntry (view i) = false
+isEntry (logLength i) = false
+isEntry (log i k) = true
+isEntry (message m f) = false
+
+-- two banks that are the same but for the order inside the logs: every word outside the logs is equal, each log holds
+-- each number as often as the other bank's, and the words past its end are equal
+pub record Alike (L : Layout) (x y : List ℕ) : Type 0 where
+  pub long : length x ≡ length y
+  pub outside : (p : Place) → PlaceIn L p → isEntry p ≡ false → words L x p ≡ words L y p
+  pub logs : (i m : ℕ) → i < words L x members → occurs m (logOf L x i) ≡ occurs m (logOf L y i)
+  pub past : (i k : ℕ) → PlaceIn L (log i k) → words L x (logLength i) ≤ k → words L x (log i k) ≡ words L y (log i k)
+
+-- all-ack, or majority with more than half of the controllers up
+abbrev pub Quorum : Layout → List ℕ → Type 0
+Quorum L b =
+    (words L b mode ≡ allAck) ⊎ (words L b members < 2 * countBelow (words L b up) (words L b members))
