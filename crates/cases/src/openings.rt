@@ -11,5 +11,8 @@ pub(crate) fn show() {
     say::refusal(b"open mode 0", group::open(&mut bank, 3, 0));
     say::refusal(b"open mode 2", group::open(&mut bank, 3, 2));
     say::refusal(b"open mode 3", group::open(&mut bank, 3, 3));
-    say::refusal(b"open a bank one word short", group::open(&mut bank[1..], 3, 1));
+    say::refusal(
+        b"open a bank one word short",
+        group::open(&mut bank[1..], 3, 1),
+    );
 }

@@ -19,10 +19,19 @@ fn lists() {
 
 fn logs() {
     let mut bank = opened(2, 1);
-    say::refusal(b"log length of controller 2 of 2", group::log_length(&bank, 2).refusal);
-    say::refusal(b"log length of controller 1 of 2", group::log_length(&bank, 1).refusal);
+    say::refusal(
+        b"log length of controller 2 of 2",
+        group::log_length(&bank, 2).refusal,
+    );
+    say::refusal(
+        b"log length of controller 1 of 2",
+        group::log_length(&bank, 1).refusal,
+    );
     bank[Bank::LENGTHS] = 1;
-    say::refusal(b"log length in an unfit bank", group::log_length(&bank, 1).refusal);
+    say::refusal(
+        b"log length in an unfit bank",
+        group::log_length(&bank, 1).refusal,
+    );
 }
 
 // One reading at stamp 65,535, delivered by one controller.
@@ -33,9 +42,15 @@ fn days() {
     say::refusal(b"day 682", day::tally(&bank, 0, 682).refusal);
     say::number(b"day 682: sum", day::tally(&bank, 0, 682).sum as u64);
     say::refusal(b"day 683", day::tally(&bank, 0, 683).refusal);
-    say::refusal(b"day 683 of controller 1 of 1", day::tally(&bank, 1, 683).refusal);
+    say::refusal(
+        b"day 683 of controller 1 of 1",
+        day::tally(&bank, 1, 683).refusal,
+    );
     bank[Bank::LOGS] = 1;
-    say::refusal(b"day of a log with an entry not given", day::tally(&bank, 0, 0).refusal);
+    say::refusal(
+        b"day of a log with an entry not given",
+        day::tally(&bank, 0, 0).refusal,
+    );
     bank[Bank::MEMBERS] = 0;
     say::refusal(b"day in an unfit bank", day::tally(&bank, 0, 683).refusal);
 }

@@ -31,13 +31,25 @@ fn spoilt() -> [u16; Bank::WORDS] {
 pub(crate) fn show() {
     let mut bank = opened(1, 1);
     group::step(&mut bank, 1, 0, 0, 0);
-    say_settled(b"settle one message of one controller with 2", settler::settle(&mut bank, 2));
-    say_settled(b"settle with exactly what is left", settler::settle(&mut bank, 1));
-    say_settled(b"settle with 0 when nothing is left", settler::settle(&mut bank, 0));
+    say_settled(
+        b"settle one message of one controller with 2",
+        settler::settle(&mut bank, 2),
+    );
+    say_settled(
+        b"settle with exactly what is left",
+        settler::settle(&mut bank, 1),
+    );
+    say_settled(
+        b"settle with 0 when nothing is left",
+        settler::settle(&mut bank, 0),
+    );
     bank[Bank::COUNT] = 33;
     say_settled(b"settle an unfit bank", settler::settle(&mut bank, 9));
     let mut bank = full();
     say_settled(b"settle a full bank", settler::settle(&mut bank, 17136));
     let mut bank = spoilt();
-    say_settled(b"settle a full spoilt bank", settler::settle(&mut bank, 65535));
+    say_settled(
+        b"settle a full spoilt bank",
+        settler::settle(&mut bank, 65535),
+    );
 }

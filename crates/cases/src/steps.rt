@@ -13,53 +13,122 @@ fn unfit() {
     let mut bank = opened(3, 1);
     bank[Bank::MODE] = 3;
     say::refusal(b"step in an unfit bank", group::step(&mut bank, 5, 0, 0, 0));
-    say::refusal(b"step of no kind in an unfit bank", group::step(&mut bank, 9, 0, 0, 0));
+    say::refusal(
+        b"step of no kind in an unfit bank",
+        group::step(&mut bank, 9, 0, 0, 0),
+    );
 }
 
 fn not_asked() {
     let mut bank = opened(3, 1);
     say::refusal(b"kind 0", group::step(&mut bank, 0, 0, 0, 0));
     say::refusal(b"kind 8", group::step(&mut bank, 8, 0, 0, 0));
-    say::refusal(b"deliver with a third number", group::step(&mut bank, 4, 0, 0, 1));
-    say::refusal(b"crash with a second number", group::step(&mut bank, 5, 0, 1, 0));
-    say::refusal(b"detect with a third number", group::step(&mut bank, 6, 0, 1, 1));
+    say::refusal(
+        b"deliver with a third number",
+        group::step(&mut bank, 4, 0, 0, 1),
+    );
+    say::refusal(
+        b"crash with a second number",
+        group::step(&mut bank, 5, 0, 1, 0),
+    );
+    say::refusal(
+        b"detect with a third number",
+        group::step(&mut bank, 6, 0, 1, 1),
+    );
 }
 
 fn not_there() {
     let mut bank = opened(3, 1);
-    say::refusal(b"broadcast by controller 3 of 3", group::step(&mut bank, 1, 3, 0, 0));
-    say::refusal(b"send to controller 3 of 3", group::step(&mut bank, 2, 0, 3, 0));
-    say::refusal(b"detect of controller 3 of 3", group::step(&mut bank, 6, 0, 3, 0));
-    say::refusal(b"send of a message not given", group::step(&mut bank, 2, 0, 1, 0));
-    say::refusal(b"deliver of a message not given", group::step(&mut bank, 4, 0, 0, 0));
+    say::refusal(
+        b"broadcast by controller 3 of 3",
+        group::step(&mut bank, 1, 3, 0, 0),
+    );
+    say::refusal(
+        b"send to controller 3 of 3",
+        group::step(&mut bank, 2, 0, 3, 0),
+    );
+    say::refusal(
+        b"detect of controller 3 of 3",
+        group::step(&mut bank, 6, 0, 3, 0),
+    );
+    say::refusal(
+        b"send of a message not given",
+        group::step(&mut bank, 2, 0, 1, 0),
+    );
+    say::refusal(
+        b"deliver of a message not given",
+        group::step(&mut bank, 4, 0, 0, 0),
+    );
 }
 
 fn down() {
     let mut bank = opened(3, 2);
-    say::refusal(b"detect in majority mode", group::step(&mut bank, 6, 0, 1, 0));
+    say::refusal(
+        b"detect in majority mode",
+        group::step(&mut bank, 6, 0, 1, 0),
+    );
     say::refusal(b"crash", group::step(&mut bank, 5, 0, 0, 0));
-    say::refusal(b"broadcast by one that is down", group::step(&mut bank, 1, 0, 0, 0));
-    say::refusal(b"crash of one that is down", group::step(&mut bank, 5, 0, 0, 0));
-    say::refusal(b"detect in majority mode by one that is down", group::step(&mut bank, 6, 0, 1, 0));
+    say::refusal(
+        b"broadcast by one that is down",
+        group::step(&mut bank, 1, 0, 0, 0),
+    );
+    say::refusal(
+        b"crash of one that is down",
+        group::step(&mut bank, 5, 0, 0, 0),
+    );
+    say::refusal(
+        b"detect in majority mode by one that is down",
+        group::step(&mut bank, 6, 0, 1, 0),
+    );
 }
 
 fn copies() {
     let mut bank = opened(3, 1);
     say::refusal(b"broadcast", group::step(&mut bank, 1, 0, 95, 7));
-    say::refusal(b"send of a copy not to be sent", group::step(&mut bank, 2, 1, 0, 0));
-    say::refusal(b"receive of a copy not in flight", group::step(&mut bank, 3, 1, 0, 0));
-    say::refusal(b"lose of a copy not in flight", group::step(&mut bank, 7, 0, 1, 0));
-    say::refusal(b"deliver of a message not held", group::step(&mut bank, 4, 1, 0, 0));
-    say::refusal(b"deliver with acknowledgements missing", group::step(&mut bank, 4, 0, 0, 0));
+    say::refusal(
+        b"send of a copy not to be sent",
+        group::step(&mut bank, 2, 1, 0, 0),
+    );
+    say::refusal(
+        b"receive of a copy not in flight",
+        group::step(&mut bank, 3, 1, 0, 0),
+    );
+    say::refusal(
+        b"lose of a copy not in flight",
+        group::step(&mut bank, 7, 0, 1, 0),
+    );
+    say::refusal(
+        b"deliver of a message not held",
+        group::step(&mut bank, 4, 1, 0, 0),
+    );
+    say::refusal(
+        b"deliver with acknowledgements missing",
+        group::step(&mut bank, 4, 0, 0, 0),
+    );
     say::refusal(b"send", group::step(&mut bank, 2, 0, 1, 0));
     say::refusal(b"the same send again", group::step(&mut bank, 2, 0, 1, 0));
-    say::refusal(b"lose with both ends up", group::step(&mut bank, 7, 0, 1, 0));
-    say::refusal(b"detect of one that is up", group::step(&mut bank, 6, 1, 0, 0));
+    say::refusal(
+        b"lose with both ends up",
+        group::step(&mut bank, 7, 0, 1, 0),
+    );
+    say::refusal(
+        b"detect of one that is up",
+        group::step(&mut bank, 6, 1, 0, 0),
+    );
     say::refusal(b"crash of the sender", group::step(&mut bank, 5, 0, 0, 0));
-    say::refusal(b"send by one that is down", group::step(&mut bank, 2, 0, 2, 0));
-    say::refusal(b"detect of one that is down", group::step(&mut bank, 6, 1, 0, 0));
+    say::refusal(
+        b"send by one that is down",
+        group::step(&mut bank, 2, 0, 2, 0),
+    );
+    say::refusal(
+        b"detect of one that is down",
+        group::step(&mut bank, 6, 1, 0, 0),
+    );
     say::refusal(b"the same detect again", group::step(&mut bank, 6, 1, 0, 0));
-    say::refusal(b"lose with the sender down", group::step(&mut bank, 7, 0, 1, 0));
+    say::refusal(
+        b"lose with the sender down",
+        group::step(&mut bank, 7, 0, 1, 0),
+    );
 }
 
 fn deliveries() {
@@ -71,7 +140,10 @@ fn deliveries() {
     say::refusal(b"deliver", group::step(&mut bank, 4, 0, 0, 0));
     say::refusal(b"a second deliver", group::step(&mut bank, 4, 0, 0, 0));
     spoilt[Bank::LENGTHS] = 1;
-    say::refusal(b"deliver into a full log", group::step(&mut spoilt, 4, 0, 0, 0));
+    say::refusal(
+        b"deliver into a full log",
+        group::step(&mut spoilt, 4, 0, 0, 0),
+    );
 }
 
 // Broadcast 32 is fine, the 33rd is not.

@@ -1,8 +1,8 @@
 -- The tally of a day over a log: how many of its entries are the day's, and the sum of their values.
 use Prim.Native.Nat.{ℕ, _+_, min}
 use mathlib.Core.Path.{_≡_}
-use mathlib.Core.Bool.{Bool, true, false, cond, _&&_}
-use mathlib.Core.List.{List, [], _∷_, map}
+use mathlib.Core.Bool.{Bool, true, cond, _&&_}
+use mathlib.Core.List.{List, [], _∷_}
 use lib.Dec.{eqb, leb}
 use Rattle.group.specs.Place.{Words, message, stamp, value}
 use Rattle.group.specs.Layout.{Layout, paper, words}
@@ -10,7 +10,7 @@ use Rattle.group.specs.Fit.{fit}
 use Rattle.group.specs.Refusals.{_else_, firstBroken, isController, isMessage}
 use Rattle.group.specs.Logs.{logOf}
 use Rattle.day.specs.Days.{dayOf, lastDay}
-use Rattle.day.specs.declared.Tally.{Tally}
+use Rattle.day.specs.declared.entries.Tally.{Tally}
 
 abbrev pub tally : ℕ → ℕ → Tally
 tally n s = record { count = n; sum = s }

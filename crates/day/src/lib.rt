@@ -1,61 +1,11 @@
 // The day tally over a log. Reads the bank through the group's questions and one record at a time; writes nothing.
 ghost use mathlib.Core.Path.{_≡_};
-ghost use mathlib.Core.Bool.{true, false};
-ghost use Prim.Native.Nat.{_<_, _≤_, min};
-ghost use lib.Dec.{eqb};
-ghost use Rattle.group.specs.Layout.{paper, words};
-ghost use Rattle.group.specs.Fit.{Fit};
-ghost use Rattle.day.specs.Days.{dayOf};
-ghost use Rattle.day.specs.Tallies;
-ghost use Rattle.day.specs.Tallies.{addEntry, empty, TallyPromise};
+ghost use Rattle.day.specs.Tallies.{TallyPromise};
 use group::Bank;
 
-// How many entries of a log are a day's, and the sum of their values.
-pub struct Tally {
-    pub count: u16,
-    pub sum: u32,
-}
+mod entries;
 
-impl Tally {
-    // The last day: it ends at stamp 65,535.
-    pub const LAST_DAY: u16 = 682;
-
-    pub fn fresh() -> Tally
-        ensures { λ r. ⌜ r ≡ empty ⌝ }
-    {
-        Tally { count: 0, sum: 0 }
-    }
-
-    // One log entry more.
-    pub fn add_entry(self, day: u16, stamp: u16, value: u16) -> Tally
-        ensures { λ r. ⌜ r ≡ addEntry day self stamp value ⌝ }
-    {
-        if stamp / 96 != day {
-            return self;
-        }
-        Tally {
-            count: one_more(self.count),
-            sum: sum_with(self.sum, value),
-        }
-    }
-}
-
-fn one_more(count: u16) -> u16
-    ensures { λ r. ⌜ r ≡ min (count + 1) 65535 ⌝ }
-{
-    if count < 65535 { count + 1 } else { 65535 }
-}
-
-fn sum_with(sum: u32, value: u16) -> u32
-    ensures { λ r. ⌜ r ≡ min (sum + value) 4294967295 ⌝ }
-{
-    let v = value as u32;
-    if sum <= 4294967295 - v {
-        sum + v
-    } else {
-        4294967295
-    }
-}
+pub use entries::Tally;
 
 // The answer to a question about a day: the tally is empty where it is refused.
 pub struct DayTally {

@@ -1,4 +1,4 @@
--- What holds of every run.
+-- What holds of every run, from the sets up to the banks.
 pub mod Runs
 pub mod Cells
 pub mod Enough
@@ -10,3 +10,30 @@ pub mod End
 pub mod Sums
 pub mod Weights
 pub mod Work
+pub mod Names
+pub mod Visible
+pub mod Bridge
+pub mod Written
+pub mod Steps
+pub mod Allowing
+pub mod Opened
+pub mod Lifting
+pub mod Untouched
+pub mod Broadcast
+pub mod Entries
+pub mod Listing
+pub mod Reached
+pub mod Logs
+pub mod History
+pub mod Unrefused
+pub mod Extent
+pub mod Past
+pub mod Ends
+pub mod Agreement
+pub mod Candidates
+pub mod Choice
+pub mod Turns
+pub mod Settler
+pub mod Listed
+pub mod Demand3
+pub mod Table

@@ -22,7 +22,7 @@ use Rattle.laws.specs.Demand.{Reached}
 
 module _ (L : Layout) where
   -- some accepted steps lead from b to c
-  pub Leads : List ℕ → List ℕ → Type 0
+  unfoldable pub Leads : List ℕ → List ℕ → Type 0
   Leads b c = (es : List Step) × Run (Allowed L) (after L) b es c
 
   -- a step that is accepted is an allowed step

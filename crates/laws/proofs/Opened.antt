@@ -1,25 +1,25 @@
 -- A bank just opened has the sets of a group just opened.
 use mathlib.Core.Path.{_≡_, refl, sym, ap, fun-ext, _∙_}
-use mathlib.Core.Bool.{Bool, true, false, cond, _&&_, _||_, and-true}
-use mathlib.Core.List.{List, [], _∷_}
-use Prim.Native.Nat.{ℕ, zero, suc, _+_, _≤_, _<_}
-use native.Mathlib.Nat.{lt-irrefl}
+use mathlib.Core.Bool.{Bool, true, false, cond, not, _&&_, _||_, and-true}
+use mathlib.Core.List.{List}
+use Prim.Native.Nat.{ℕ, zero, suc, _+_, _≤_}
 use native.Mathlib.Omega.{arith}
 use lib.Dec.{eqb, ltb}
 use lib.ListN.{replicate, length-replicate, getD-replicate}
-use borrow.Author.Tests.{eqb-true, eqb-false, ltb-true, ltb-false, lt-ltb, le-ltb}
+use borrow.Author.Tests.{eqb-true, eqb-false, lt-ltb, le-ltb}
 use Rattle.sets.specs.Set.{has, allBelow}
 use Rattle.sets.proofs.Members.{has-all-below, has-none}
-use Rattle.group.specs.Place.{Place, Words, members, mode, count, up, view, message}
+use Rattle.group.specs.Place.{Place, members, mode, count, up, view, message}
 use Rattle.group.specs.Place.{sender, held, delivered, acked, unsent, inFlight}
 use Rattle.group.specs.Layout.{Layout, size, address, words}
 use Rattle.group.specs.Fit.{isSize}
 use Rattle.group.specs.Opening.{views, opening, opened}
-use Rattle.group.proofs.Places.{key, PlaceIn, inside}
+use Rattle.group.proofs.Places.{Key, key, inside}
 use Rattle.group.proofs.Reading.{later, words-after}
 use Rattle.group.proofs.Views.{size-range}
 use Rattle.group.proofs.WritesIn.{opening-in}
-use Rattle.laws.specs.Sets.{Sets, openSets}
+use Rattle.laws.specs.Sets.{openSets}
+use Rattle.laws.proofs.Names.{views-aside, later-aside}
 use Rattle.laws.proofs.Visible.{seen-same, seen-later, seen-nothing}
 use Rattle.laws.proofs.Bridge.{recordSets, sets}
 use Rattle.laws.proofs.Steps.{setsOf}
@@ -27,10 +27,9 @@ use Rattle.laws.proofs.Steps.{setsOf}
 -- ---- the views that opening writes
 
 elsewhere : (n k i : ℕ) (p : Place) (x : ℕ) → eqb 4 (key p .region) ≡ false → later (views n i k) p x ≡ x
-elsewhere n zero i p x e = refl
-elsewhere n (suc k) i p x e =
-    elsewhere n k (suc i) p _ e
-    ∙ ap (λ t. cond (t && (eqb 0 (key p .run) && (eqb i (key p .index) && eqb 0 (key p .row)))) (allBelow n) x) e
+elsewhere n k i p x e =
+    let other : Key → Bool = λ j. not (eqb 4 (j .region)) in
+    later-aside other (views n i k) p x (views-aside other n i k (λ j. refl)) (ap not e)
 
 -- view a is among the k that begin at i
 among : ℕ → ℕ → ℕ → Bool

@@ -1,44 +1,27 @@
--- The words of a bank as one function of places: 0 where the layout has no such place. A step is then its writes, and no more.
+-- The words of a bank as one function of places, 0 where the layout has none: a step is then its writes, and no more.
 use mathlib.Core.Path.{_≡_, refl, sym, ap, ap₂, fun-ext, _∙_}
-use mathlib.Core.Bool.{Bool, true, false, cond, _&&_, true≢false, false≢true}
+use mathlib.Core.Bool.{Bool, true, false, cond, _&&_, true≢false}
 use mathlib.Core.List.{List, [], _∷_, _++_}
 use Prim.Native.Nat.{ℕ, _+_, _<_}
 use native.Mathlib.Omega.{arith}
-use lib.Dec.{eqb, ltb}
-use lib.ListN.{length, getD}
-use borrow.Author.Tests.{lt-ltb, ltb-true, eqb-true}
-use Rattle.sets.specs.Set.{with, without}
+use lib.Dec.{ltb}
+use lib.ListN.{getD}
+use borrow.Author.Tests.{lt-ltb, ltb-true}
 use Rattle.group.specs.Place.{Field, Place, Words, recordOf, Write, _≔_}
-use Rattle.group.specs.Place.{sender, stamp, value, held, delivered, acked, unsent, inFlight}
+use Rattle.group.specs.Place.{held, delivered, acked, unsent, inFlight}
 use Rattle.group.specs.Place.{members, mode, count, up, view, logLength, log, message}
-use Rattle.group.specs.Layout.{Layout, recordWidths, size, address, puts, words, inRecord}
+use Rattle.group.specs.Layout.{Layout, recordWidths, words, inRecord}
 use Rattle.group.specs.Step.{Step, broadcast, send, receive, deliver, crash, detect, lose}
-use Rattle.group.specs.Writes.{freshRecord, sent, received, writes}
+use Rattle.group.specs.Writes.{freshRecord, writes}
 use Rattle.group.specs.Promises.{Allowed, after}
 use Rattle.group.proofs.Places.{Key, key, run, index, samePlace, PlaceIn, FieldIn}
 use Rattle.group.proofs.Reading.{later, AllIn, words-after}
 use Rattle.group.proofs.Bounds.{controller-below, message-below, copy-below}
+use Rattle.group.proofs.Fitness.{both}
 use Rattle.group.proofs.WritesIn.{writes-in}
-
-both : (s t : Bool) → (s && t) ≡ true → (s ≡ true) × (t ≡ true)
-both true t e = (refl, e)
-both false t e = absurd (false≢true e)
+use Rattle.laws.proofs.Names.{one-key}
 
 -- ---- whether a layout has a place, by its key
-
-same-key : (j k : Key)
-    → (eqb (j .region) (k .region)
-    && (eqb (j .run) (k .run) && (eqb (j .index) (k .index) && eqb (j .row) (k .row)))) ≡ true → j ≡ k
-same-key j k e =
-    let r = both (eqb (j .region) (k .region)) _ e in
-    let n = both (eqb (j .run) (k .run)) _ (r .1) in
-    let i = both (eqb (j .index) (k .index)) (eqb (j .row) (k .row)) (n .1) in
-    λ d. record {
-      region = eqb-true (j .region) (k .region) (r .0) d;
-      run = eqb-true (j .run) (k .run) (n .0) d;
-      index = eqb-true (j .index) (k .index) (i .0) d;
-      row = eqb-true (j .row) (k .row) (i .1) d;
-    }
 
 module _ (L : Layout) where
   abbrev keyIn : Key → Bool
@@ -84,7 +67,7 @@ module _ (L : Layout) where
 
   -- one place, one answer
   same-in : (p q : Place) → samePlace p q ≡ true → keyIn (key p) ≡ keyIn (key q)
-  same-in p q e = ap keyIn (same-key (key p) (key q) e)
+  same-in p q e = ap keyIn (one-key p q e)
 
   -- ---- what is seen of the words
 

@@ -1,2 +1,8 @@
 pub mod Sets
 pub mod Runs
+pub mod Logs
+pub mod History
+pub mod Demand
+pub mod Settler
+pub mod Demand3
+pub mod Table

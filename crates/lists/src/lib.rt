@@ -1,6 +1,5 @@
 // A Rattle caller's own list of step records, walked by one thin function over the group's single step.
 ghost use Rattle.lists.specs.Records.{StepsPromise};
-
 use group::Ran;
 
 // One step: its kind and three numbers.
@@ -16,16 +15,25 @@ pub fn run_steps(bank: &mut [u16], steps: &[Step]) -> Ran
     ensures { λ r. ⌜ StepsPromise (now (bank .entry)) (now (steps .entry)) (r .accepted) (r .refusal) (now (bank .exit)) ⌝ }
 {
     if !group::fit(bank) {
-        return Ran { accepted: 0, refusal: 1 };
+        return Ran {
+            accepted: 0,
+            refusal: 1,
+        };
     }
     let mut i: usize = 0;
     while i < steps.len() {
         let s = steps[i];
         let r = group::step(bank, s.kind, s.a, s.b, s.c);
         if r != 0 {
-            return Ran { accepted: i, refusal: r };
+            return Ran {
+                accepted: i,
+                refusal: r,
+            };
         }
         i += 1;
     }
-    Ran { accepted: i, refusal: 0 }
+    Ran {
+        accepted: i,
+        refusal: 0,
+    }
 }

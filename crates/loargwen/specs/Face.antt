@@ -49,7 +49,8 @@ settleOnBytes bytes e =
     (settledBytes 1 0 0 bytes)
 
 abbrev pub SettleBytes : List ℕ → ℕ → ℕ → ℕ → ℕ → List ℕ → Type 0
-SettleBytes bytes budget r k q bytes′ = settledBytes r k q bytes′ ≡ settleOnBytes bytes (settleOf paper (wordsOf bytes) budget)
+SettleBytes bytes budget r k q bytes′ =
+    settledBytes r k q bytes′ ≡ settleOnBytes bytes (settleOf paper (wordsOf bytes) budget)
 
 abbrev pub TallyBytes : List ℕ → ℕ → ℕ → ℕ → ℕ → ℕ → Type 0
 TallyBytes bytes who day r n s =

@@ -1,13 +1,13 @@
 // A bank of bytes and a bank of words, each made from the other. Words cross as two bytes, the low one first.
 ghost use mathlib.Core.Path.{_≡_};
-ghost use Prim.Native.Nat.{_*_};
+ghost use Prim.Native.Nat.{_+_, _*_};
 ghost use lib.ListN.{length};
 ghost use Rattle.loargwen.specs.Bytes.{wordsOf, bytesOf};
 
-fn wide(b: u8) -> u16
-    ensures { λ r. ⌜ r ≡ b ⌝ }
+fn word(low: u8, high: u8) -> u16
+    ensures { λ r. ⌜ r ≡ low + 256 * high ⌝ }
 {
-    b as u16
+    low as u16 + 256 * (high as u16)
 }
 
 pub(crate) fn load(bytes: &[u8], words: &mut [u16])
@@ -16,7 +16,7 @@ pub(crate) fn load(bytes: &[u8], words: &mut [u16])
 {
     let mut k = 0;
     while k < words.len() {
-        words[k] = wide(bytes[2 * k]) + 256 * wide(bytes[2 * k + 1]);
+        words[k] = word(bytes[2 * k], bytes[2 * k + 1]);
         k += 1;
     }
 }

@@ -1,14 +1,24 @@
 // The C face of the station's scheduler: opening, one step, the settler and the tally, on numbers and a byte slice that
-// stands for the bank. Each call takes the bytes apart, asks the crate below, and writes the bytes back where it changed
-// anything. include/loargwen.h is what a C program sees.
+// stands for the bank. Each call takes the bytes apart, asks the crate below, and writes the bytes back where nothing was
+// refused. include/loargwen.h is what a C program sees.
 mod bytes;
 
+ghost use mathlib.Core.Path.{_≡_};
+ghost use Prim.Native.Nat.{_*_};
+ghost use Rattle.group.specs.Layout.{paper, size};
+ghost use Rattle.loargwen.specs.Face;
 ghost use Rattle.loargwen.specs.Face.{OpenBytes, StepBytes, SettleBytes, TallyBytes};
-
 use group::Bank;
 
 // How many bytes a bank has.
 const BYTES: usize = 4488;
+
+// The constant is the layout's own number.
+fn tied()
+    ensures { λ _. do
+      bytes ← ⟦BYTES⟧ .entry
+      ⌜ bytes ≡ 2 * size paper ⌝ }
+{}
 
 // The refusal, the steps taken, and 1 where no step is left.
 #[repr(C)]
@@ -84,13 +94,15 @@ pub extern "C" fn loargwen_settle(bank: &mut [u8], budget: u16) -> Settled
     }
 }
 
-fn flag(t: bool) -> u16 {
+fn flag(t: bool) -> u16
+    ensures { λ r. ⌜ r ≡ Face.flag t ⌝ }
+{
     if t { 1 } else { 0 }
 }
 
 #[no_mangle]
-pub extern "C" fn loargwen_tally(bank: &[u8], who: u16, day: u16) -> Day
-    ensures { λ r. ⌜ TallyBytes (now (bank .entry)) who day (r .refusal) (r .count) (r .sum) ⌝ }
+pub extern "C" fn loargwen_tally(bank: &[u8], who: u16, on: u16) -> Day
+    ensures { λ r. ⌜ TallyBytes (now (bank .entry)) who on (r .refusal) (r .count) (r .sum) ⌝ }
 {
     if bank.len() != BYTES {
         return Day {
@@ -101,7 +113,7 @@ pub extern "C" fn loargwen_tally(bank: &[u8], who: u16, day: u16) -> Day
     }
     let mut words = [0u16; Bank::WORDS];
     bytes::load(bank, &mut words);
-    let t = day::tally(&words, who, day);
+    let t = day::tally(&words, who, on);
     Day {
         refusal: t.refusal,
         count: t.count,

@@ -1,4 +1,4 @@
-// The settler: takes the first allowed step again and again. It changes the bank through the group's single steps alone.
+// The settler takes the first allowed step again and again. It changes the bank through the group's single steps alone.
 mod search;
 
 ghost use Rattle.settler.specs.Settling.{SettlePromise};
@@ -24,7 +24,7 @@ pub fn settle(bank: &mut [u16], budget: u16) -> Settled
     }
     let mut steps: u16 = 0;
     while steps < budget {
-        let next = search::next(bank);
+        let next = search::first_step(bank);
         let Next::Take(m) = next else {
             return Settled {
                 refusal: 0,

@@ -31,7 +31,8 @@ pub enum Next {
 // The first detect: a controller that is up, and the lowest that it still takes to be up and that is down.
 fn first_detect(bank: &[u16]) -> Next
     requires { ⌜ Fit paper (now bank) ⌝ }
-    ensures { λ r. ⌜ r ≡ nextOf (firstOf (free paper (now (bank .entry))) (pairs (words paper (now (bank .entry)) members) detect)) ⌝ }
+    ensures { λ r. ⌜ r
+        ≡ nextOf (firstOf (free paper (now (bank .entry))) (pairs (words paper (now (bank .entry)) members) detect)) ⌝ }
 {
     let n = bank[Bank::MEMBERS];
     let up = bank[Bank::UP];
@@ -56,12 +57,14 @@ fn first_detect(bank: &[u16]) -> Next
     Next::Quiet
 }
 
-// The first copy of message m that is to be sent (kind 2) or received (kind 3) by a controller that is up. The set words
-// of that kind begin at `field` in the record.
+// The first copy of message m that is to be sent (kind 2) or received (kind 3) by a controller that is up. The set
+// words of that kind begin at `field` in the record.
 fn first_copy(bank: &[u16], kind: u16, field: usize, m: u16) -> Next
     requires { ⌜ Fit paper (now bank) ⌝ }
     requires { ⌜ (m < words paper (now bank) count) × CopyKind kind field ⌝ }
-    ensures { λ r. ⌜ r ≡ nextOf (firstOf (free paper (now (bank .entry))) (pairs (words paper (now (bank .entry)) members) (copy kind m))) ⌝ }
+    ensures { λ r. ⌜ r
+        ≡ nextOf (firstOf (free paper (now (bank .entry)))
+        (pairs (words paper (now (bank .entry)) members) (copy kind m))) ⌝ }
 {
     let n = bank[Bank::MEMBERS];
     let up = bank[Bank::UP];
@@ -115,7 +118,9 @@ fn may_deliver(bank: &[u16], i: u16, m: u16) -> bool
 fn first_deliver(bank: &[u16], m: u16) -> Next
     requires { ⌜ Fit paper (now bank) ⌝ }
     requires { ⌜ m < words paper (now bank) count ⌝ }
-    ensures { λ r. ⌜ r ≡ nextOf (firstOf (free paper (now (bank .entry))) (map (λ i. deliver i m) (below (words paper (now (bank .entry)) members)))) ⌝ }
+    ensures { λ r. ⌜ r
+        ≡ nextOf (firstOf (free paper (now (bank .entry)))
+        (map (λ i. deliver i m) (below (words paper (now (bank .entry)) members)))) ⌝ }
 {
     let n = bank[Bank::MEMBERS];
     let mut i = 0;
@@ -137,7 +142,8 @@ fn first_deliver(bank: &[u16], m: u16) -> Next
 fn first_of_message(bank: &[u16], m: u16) -> Next
     requires { ⌜ Fit paper (now bank) ⌝ }
     requires { ⌜ m < words paper (now bank) count ⌝ }
-    ensures { λ r. ⌜ r ≡ nextOf (firstOf (free paper (now (bank .entry))) (ofMessage (words paper (now (bank .entry)) members) m)) ⌝ }
+    ensures { λ r. ⌜ r
+        ≡ nextOf (firstOf (free paper (now (bank .entry))) (ofMessage (words paper (now (bank .entry)) members) m)) ⌝ }
 {
     let sent = first_copy(bank, 2, Bank::UNSENT, m);
     if let Next::Take(s) = sent {
@@ -151,7 +157,7 @@ fn first_of_message(bank: &[u16], m: u16) -> Next
 }
 
 // Detects first, then the messages in turn.
-pub(crate) fn next(bank: &[u16]) -> Next
+pub(crate) fn first_step(bank: &[u16]) -> Next
     requires { ⌜ Fit paper (now bank) ⌝ }
     ensures { λ r. ⌜ r ≡ nextOf (Candidates.next paper (now (bank .entry))) ⌝ }
 {
@@ -175,6 +181,6 @@ pub(crate) fn is_quiet(bank: &[u16]) -> bool
     requires { ⌜ Fit paper (now bank) ⌝ }
     ensures { λ r. ⌜ r ≡ onNext (Candidates.next paper (now (bank .entry))) true (λ _. false) ⌝ }
 {
-    let left = next(bank);
+    let left = first_step(bank);
     if let Next::Quiet = left { true } else { false }
 }

@@ -23,20 +23,20 @@ enum Case {
 impl Case {
     /// The first two cases are always the two that settle longest.
     fn draw(random: &mut Random, number: u64) -> Case {
-        let drawn = random.below(4000);
+        let drawn = random.below(40_000);
         match (number, drawn) {
             (0, _) => return Case::Full,
             (1, _) => return Case::Heavy,
             _ => {}
         }
         match drawn {
-            0..1600 => Case::Short,
-            1600..2600 => Case::Long,
-            2600 => Case::Full,
-            2601 => Case::Heavy,
-            2602..3400 => Case::Spoilt,
-            3400..3600 => Case::Unfit(random.pick(&Unfit::ALL)),
-            3600..3720 => Case::Opening,
+            0..16_000 => Case::Short,
+            16_000..26_000 => Case::Long,
+            26_000..26_003 => Case::Full,
+            26_003..26_005 => Case::Heavy,
+            26_005..34_000 => Case::Spoilt,
+            34_000..36_000 => Case::Unfit(random.pick(&Unfit::ALL)),
+            36_000..37_200 => Case::Opening,
             _ => Case::Days,
         }
     }

@@ -1,0 +1,146 @@
+-- The settler's steps are a run of settling steps; it says that none is left just where none is; its budget suffices.
+use mathlib.Core.Path.{_≡_, refl, sym, ap, subst}
+use mathlib.Core.Bool.{true, false, true≢false, false≢true}
+use mathlib.Core.List.{List, [], _∷_}
+use mathlib.Core.Option.{Option, none, some}
+use Prim.Native.Nat.{ℕ, zero, suc, _+_, _≤_}
+use native.Mathlib.Nat.{lt-irrefl}
+use native.Mathlib.Omega.{arith}
+use lib.ListN.{length}
+use Rattle.group.specs.Place.{count}
+use Rattle.group.specs.Layout.{Layout, words}
+use Rattle.group.specs.Fit.{Fit}
+use Rattle.group.specs.Step.{Step}
+use Rattle.group.specs.Promises.{Allowed, after}
+use Rattle.group.proofs.Rules.{pass}
+use Rattle.group.proofs.Fitness.{facts-fit}
+use Rattle.group.proofs.Kept.{fit-after}
+use Rattle.settler.specs.Candidates
+use Rattle.settler.specs.Settling.{Ending, ending, onNext, settleFrom, settleOf}
+use Rattle.laws.specs.Sets.{Ok, act}
+use Rattle.laws.specs.Runs.{Run, done, next, Ended, Settling, settlings, most}
+use Rattle.laws.specs.Demand.{Reached, Finished}
+use Rattle.laws.specs.Settler.{chosen}
+use Rattle.laws.proofs.Visible.{visible}
+use Rattle.laws.proofs.Bridge.{sets}
+use Rattle.laws.proofs.Cells.{is-true}
+use Rattle.laws.proofs.Keep.{Inv, run-inv}
+use Rattle.laws.proofs.Swap.{kind-of}
+use Rattle.laws.proofs.Work.{work, settling-work, settled-work, within-most}
+use Rattle.laws.proofs.Steps.{setsOf}
+use Rattle.laws.proofs.Allowing.{allowed-ok}
+use Rattle.laws.proofs.Lifting.{lift-settling, reached-sets, reached-inv}
+use Rattle.laws.proofs.Reached.{fit-run}
+use Rattle.laws.proofs.Choice.{Next, next-is}
+
+-- a run of settling steps is a run
+pub plain-run : {S : Type 0} {allows : S → Step → Type 0} {act : S → Step → S} {s t : S} {es : List Step}
+    → Run (Settling allows) act s es t → Run allows act s es t
+plain-run done = done
+plain-run (next o r) = next (o .1) (plain-run r)
+
+-- what an ending says of the steps es, taken from b with k taken before and d left in the budget
+pub record EndingOf (L : Layout) (k d : ℕ) (b : List ℕ) (es : List Step) (o : Ending) : Type 0 where
+  pub accepted : o .refusal ≡ 0
+  pub run : Run (Settling (Allowed L)) (after L) b es (o .bank)
+  pub counted : o .steps ≡ k + length es
+  -- it says that no step is left where none is; else the budget is spent and a step is left
+  pub quiet : o .quiet ≡ true → Ended (Settling (Allowed L)) (o .bank)
+  pub busy : o .quiet ≡ false → (length es ≡ d) × ((e : Step) × Settling (Allowed L) (o .bank) e)
+
+module _ (L : Layout) where
+  -- ---- the run
+
+  stopped : (k d : ℕ) (b : List ℕ) → Ended (Settling (Allowed L)) b → EndingOf L k d b [] (ending 0 k true b)
+  stopped k d b z =
+      record {
+        accepted = refl;
+        run = done;
+        counted = omega arith;
+        quiet = λ _. z;
+        busy = λ e. absurd (true≢false e);
+      }
+
+  pub settler-from : (d k : ℕ) (b : List ℕ) → Fit L b → EndingOf L k d b (chosen L d b) (settleFrom L k b d)
+  unfolding chosen settleFrom
+  settler-from zero k b f = go (Candidates.next L b) (next-is L b f)
+    where
+      go : (o : Option Step) → Next L b o → EndingOf L k 0 b [] (ending 0 k (onNext o true (λ s. false)) b)
+      go none n = stopped k 0 b n
+      go (some s) n =
+          record {
+            accepted = refl;
+            run = done;
+            counted = omega arith;
+            quiet = λ e. absurd (false≢true e);
+            busy = λ _. (refl, (s, n .0));
+          }
+  settler-from (suc d) k b f =
+      go (Candidates.next L b) (next-is L b f) (λ s a. settler-from d (k + 1) (after L b s) (fit-after L b s a))
+    where
+      go : (o : Option Step) → Next L b o
+          → ((s : Step) → Allowed L b s
+          → EndingOf L (k + 1) d (after L b s) (chosen L d (after L b s)) (settleFrom L (k + 1) (after L b s) d))
+          → EndingOf L k (suc d) b (onNext o [] (λ s. s ∷ chosen L d (after L b s)))
+          (onNext o (ending 0 k true b) (λ s. settleFrom L (k + 1) (after L b s) d))
+      go none n r = stopped k (suc d) b n
+      go (some s) (o, first) r =
+          let h = r s (o .1) in
+          record {
+            accepted = h .accepted;
+            run = next o (h .run);
+            counted = omega (arith, h .counted);
+            quiet = h .quiet;
+            busy = λ e. let x = h .busy e in (ap suc (x .0), x .1);
+          }
+
+  pub settler-run : (d : ℕ) (b : List ℕ) → Fit L b → EndingOf L 0 d b (chosen L d b) (settleOf L b d)
+  unfolding settleOf
+  settler-run d b f =
+      subst (EndingOf L 0 d b (chosen L d b)) (sym (pass (ending 1 0 false b) (facts-fit L b f) refl))
+      (settler-from d 0 b f)
+
+  module _ {k d : ℕ} {b : List ℕ} {es : List Step} {o : Ending} (h : EndingOf L k d b es o) where
+    pub quiet-where-ended : Ended (Settling (Allowed L)) (o .bank) → o .quiet ≡ true
+    quiet-where-ended z = is-true (o .quiet) (λ e. let left = h .busy e .1 in z (left .0) (left .1))
+
+    -- ---- the budget
+
+    -- with a budget that covers the work no step is left
+    pub settler-ends : Inv (setsOf L b) → work (setsOf L b) ≤ d → o .quiet ≡ true
+    settler-ends i l = is-true (o .quiet) spent
+      where
+        run : Run (Settling (Ok (L .messages))) act (setsOf L b) es (setsOf L (o .bank))
+        run = lift-settling L (h .run)
+
+        spent : o .quiet ≡ false → ⊥
+        spent q =
+            let (used, (e, (s, a))) = h .busy q in
+            let one =
+            settling-work (setsOf L (o .bank)) (run-inv (L .messages) i (plain-run run)) (L .messages) (kind-of e s)
+            (allowed-ok L (o .bank) e a) in
+            lt-irrefl d (omega (arith, used, one, settled-work (L .messages) i run))
+
+  -- ---- from opening
+
+  module _ {n k : ℕ} {before : List Step} {b : List ℕ} (r : Reached L n k before b) where
+    -- the settling steps taken and the work left stay within the paper's bound
+    pub work-within-most : settlings before + work (setsOf L b) ≤ most n (words L b count)
+    unfolding setsOf sets visible
+    work-within-most = within-most (L .messages) n k (reached-sets L r)
+
+    pub settlings-within-most : settlings before ≤ most n (words L b count)
+    settlings-within-most = omega (arith, work-within-most)
+
+    pub steps-within-most : {es : List Step} {c : List ℕ} → Run (Settling (Allowed L)) (after L) b es c
+        → settlings before + length es ≤ most n (words L b count)
+    steps-within-most q =
+        omega (arith, work-within-most, settled-work (L .messages) (reached-inv L r) (lift-settling L q))
+
+    -- with a budget of that much the settler finishes
+    pub settler-finishes : (d : ℕ) → most n (words L b count) ≤ d
+        → (settleOf L b d .quiet ≡ true) × Finished L b (chosen L d b) (settleOf L b d .bank)
+    settler-finishes d l =
+        let h = settler-run d b (fit-run L n k (r .sized) (r .known) (r .run)) in
+        let q = settler-ends h (reached-inv L r) (omega (arith, work-within-most)) in
+        (q, record { run = h .run; ended = h .quiet q })

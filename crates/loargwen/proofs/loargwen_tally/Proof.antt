@@ -1,0 +1,47 @@
+-- loargwen_tally: the tally's answer on the bank that the bytes stand for.
+use Rattle.group.specs.Layout.{paper}
+use Rattle.day.specs.Tallies
+use Rattle.loargwen.specs.Bytes.{wordsOf}
+use Rattle.loargwen.proofs.Answers.{Called, no-bank, tallied}
+use borrow.Author.Needs.{needs}
+use Rattle.loargwen.proofs.loargwen_tally.Statement.{statement}
+use Rattle.loargwen.proofs.loargwen_tally.Tie as tie
+
+-- what the tally answers is its answer on the bank that the bytes stand for
+called : (c : tie.After-tally) → let a = c .before .before .before .before .before .before .before .args in
+    let t = c .tally .result in
+    Called (a .bank .now) (Tallies.answer (t .refusal) (Tallies.tally (t .count) (t .sum)))
+    (Tallies.tallyOf paper (wordsOf (a .bank .now)) (a .who) (a .on))
+called c = record {
+  whole = c .before .before .before .before .before .if1 .left;
+  same = rw (c .before .before .before .load .ensures) at (c .tally .ensures);
+}
+
+returns : tie.Need-returns
+returns c = rw (no-bank _ (c .if1 .taken))
+
+slice-aggregate-load : tie.Need-slice-aggregate-load
+slice-aggregate-load c = search needs
+
+load-requires : tie.Need-load-requires
+load-requires c κs = search needs
+
+slice-aggregate-tally : tie.Need-slice-aggregate-tally
+slice-aggregate-tally c = search needs
+
+tally-requires : tie.Need-tally-requires
+tally-requires c κs = search needs
+
+returns-2 : tie.Need-returns-2
+returns-2 c = tallied (called c)
+
+pub loargwen-tally-spec : {M : Type 1} → statement M
+loargwen-tally-spec =
+    tie.close
+    (tie.spec
+    returns
+    slice-aggregate-load
+    load-requires
+    slice-aggregate-tally
+    tally-requires
+    returns-2)

@@ -1,0 +1,7 @@
+-- Laws that belong to no one function; other crates cite them.
+pub mod First
+pub mod Free
+pub mod Taking
+pub mod Endings
+pub mod Left
+pub mod Determined

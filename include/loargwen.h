@@ -1,0 +1,120 @@
+/*
+ * loargwen.h: a group of up to 16 chamber controllers that broadcast readings and orders to each other, so that either
+ * every controller that is still up acts on a message or none does.
+ *
+ * Link target/staticlib/libloargwen.a (`rt staticlib loargwen` makes it, for x86-64 Linux).
+ *
+ * The whole state of a group is its bank: LOARGWEN_BANK_BYTES bytes of yours. Each call takes the bank's address and
+ * its length in bytes. The library keeps nothing between calls, allocates nothing and touches no other memory of yours;
+ * of the C library it calls memcpy and memset alone. A bank may be copied, saved and put back like any other bytes.
+ * Calls on different banks may run at the same time. During a call nobody else may touch the bank that it was given.
+ *
+ * What holds of every call, on any bytes and any numbers, spoilt banks included (proved, not tested; see
+ * docs/PROMISES.md):
+ *   - it ends, and never reads or writes outside the bank;
+ *   - its answer and every byte of the bank afterwards are those of the written rules, and nothing else is possible;
+ *   - where it answers a refusal, every byte of the bank is as it was.
+ *
+ * A bank is unfit, and every call but loargwen_open refuses it with LOARGWEN_UNFIT, when it is not LOARGWEN_BANK_BYTES
+ * long or its bytes cannot be a group's: a wrong number of controllers, an unknown mode, more than 32 messages, or a
+ * log longer than there are messages. In the bank each number is two bytes, the low one first.
+ */
+#ifndef LOARGWEN_H
+#define LOARGWEN_H
+
+#include <stddef.h>
+#include <stdint.h>
+
+#ifdef __cplusplus
+extern "C" {
+#endif
+
+#define LOARGWEN_BANK_BYTES 4488
+#define LOARGWEN_CONTROLLERS 16 /* a group has 1 to 16 controllers, numbered from 0 */
+#define LOARGWEN_MESSAGES 32    /* a group carries at most 32 messages, numbered from 0 in the order of broadcast */
+#define LOARGWEN_LAST_DAY 682   /* it ends at stamp 65,535 */
+
+/* When a controller may deliver a message that it holds. */
+enum loargwen_mode {
+    LOARGWEN_ALL_ACK = 1,  /* once everyone whom it takes to be up has acknowledged it */
+    LOARGWEN_MAJORITY = 2, /* once more than half of the group have */
+};
+
+/* The kinds of step. The brackets say what the numbers a, b and c of loargwen_step mean; those not named are 0. */
+enum loargwen_kind {
+    LOARGWEN_BROADCAST = 1, /* [who, stamp, value] the next message; who must then send it to all, itself included */
+    LOARGWEN_SEND = 2,      /* [from, to, message] the copy leaves; it may go to a controller that is down */
+    LOARGWEN_RECEIVE = 3,   /* [at, from, message] the copy arrives, and at must send the message to all in its turn */
+    LOARGWEN_DELIVER = 4,   /* [at, message] at acts on the message: it joins at's log */
+    LOARGWEN_CRASH = 5,     /* [who] who is down from now on; what it has sent stays on its way */
+    LOARGWEN_DETECT = 6,    /* [at, of] at no longer waits for of, which must be down; all-ack only */
+    LOARGWEN_LOSE = 7,      /* [from, to, message] the copy on its way is lost; one of the two must be down */
+};
+
+/* What a call answers. Where several hold, the lowest is given. */
+enum loargwen_refusal {
+    LOARGWEN_DONE = 0,
+    LOARGWEN_UNFIT = 1,          /* the bank is unfit. A deliver answers it too, after all other tests, where the log is
+                                    full; a tally where the log has a number that is no message. No bank that
+                                    loargwen_open wrote and the calls below changed comes to either. */
+    LOARGWEN_NO_STEP = 2,        /* the kind is not 1 to 7, or a number that the kind does not use is not 0 */
+    LOARGWEN_NO_CONTROLLER = 3,  /* a controller's number is not below the number of controllers */
+    LOARGWEN_NO_MESSAGE = 4,     /* a message's number has not been given yet */
+    LOARGWEN_NO_DETECTION = 5,   /* detect in majority mode */
+    LOARGWEN_ACTOR_DOWN = 6,     /* who is to act is down */
+    LOARGWEN_MESSAGES_FULL = 7,  /* broadcast: there are 32 messages already */
+    LOARGWEN_NO_COPY = 8,        /* send: not to be sent; receive, lose: not on its way; deliver: not held */
+    LOARGWEN_NOT_YET = 9,        /* deliver: too few acknowledgements; detect: of is up; lose: both ends are up */
+    LOARGWEN_ALREADY = 10,       /* deliver: already delivered; detect: already known */
+    LOARGWEN_BAD_SIZE = 11,      /* open: the number of controllers is not 1 to 16 */
+    LOARGWEN_BAD_MODE = 12,      /* open: the mode is not 1 or 2 */
+    LOARGWEN_BAD_RECORD = 13,    /* of the bench and its files: no call here answers it */
+    LOARGWEN_BAD_DAY = 14,       /* tally: the day is above LOARGWEN_LAST_DAY */
+};
+
+/*
+ * Opens a group of n controllers, all up, with no message. The whole bank is written anew, whatever it held.
+ * Refusals: LOARGWEN_UNFIT (the length alone), LOARGWEN_BAD_SIZE, LOARGWEN_BAD_MODE.
+ */
+uint16_t loargwen_open(uint8_t *bank, size_t len, uint16_t n, uint16_t mode);
+
+/*
+ * Takes one step, of one of the kinds above. An accepted step changes what its kind says and nothing else. An accepted
+ * broadcast takes the next message number: the first is 0.
+ * Refusals: LOARGWEN_UNFIT to LOARGWEN_ALREADY.
+ */
+uint16_t loargwen_step(uint8_t *bank, size_t len, uint16_t kind, uint16_t a, uint16_t b, uint16_t c);
+
+/*
+ * Takes steps for the group, at most `budget`, until none is left: detects, then message by message sends, receipts and
+ * deliveries, always the first that nothing refuses, from the lowest numbers. It never broadcasts, crashes or loses.
+ * `quiet` is 1 where no such step is left afterwards, also where the budget was just enough, and else 0: call again.
+ * A group opened with n controllers that has broadcast c messages takes at most 2*n*n*c + n*c + n*(n-1) of these steps
+ * in its life, 17,136 at the most.
+ * Refusal: LOARGWEN_UNFIT; steps and quiet are then 0.
+ */
+struct loargwen_settled {
+    uint16_t refusal;
+    uint16_t steps;
+    uint16_t quiet;
+};
+struct loargwen_settled loargwen_settle(uint8_t *bank, size_t len, uint16_t budget);
+
+/*
+ * How many messages of a day controller `who` has delivered, and the sum of their values. A stamp counts quarter hours
+ * from the season's first midnight; day d has stamps 96*d to 96*d + 95. The bank is only read.
+ * Refusals, in this order: LOARGWEN_UNFIT, LOARGWEN_NO_CONTROLLER, LOARGWEN_BAD_DAY, then LOARGWEN_UNFIT for a spoilt
+ * log; count and sum are then 0.
+ */
+struct loargwen_day {
+    uint16_t refusal;
+    uint16_t count;
+    uint32_t sum;
+};
+struct loargwen_day loargwen_tally(const uint8_t *bank, size_t len, uint16_t who, uint16_t day);
+
+#ifdef __cplusplus
+}
+#endif
+
+#endif
