@@ -35,10 +35,15 @@ fn logs() {
 }
 
 // One reading at stamp 65,535, delivered by one controller.
-fn days() {
+fn read_once() -> [u16; Bank::WORDS] {
     let mut bank = opened(1, 1);
     let reading = [1u16, 0, 65535, 7, 2, 0, 0, 0, 3, 0, 0, 0, 4, 0, 0, 0];
     group::run(&mut bank, &reading);
+    bank
+}
+
+fn days() {
+    let bank = read_once();
     say::refusal(b"day 682", day::tally(&bank, 0, 682).refusal);
     say::number(b"day 682: sum", day::tally(&bank, 0, 682).sum as u64);
     say::refusal(b"day 683", day::tally(&bank, 0, 683).refusal);
@@ -46,11 +51,16 @@ fn days() {
         b"day 683 of controller 1 of 1",
         day::tally(&bank, 1, 683).refusal,
     );
+}
+
+fn spoilt_days() {
+    let mut bank = read_once();
     bank[Bank::LOGS] = 1;
     say::refusal(
         b"day of a log with an entry not given",
         day::tally(&bank, 0, 0).refusal,
     );
+    let mut bank = read_once();
     bank[Bank::MEMBERS] = 0;
     say::refusal(b"day in an unfit bank", day::tally(&bank, 0, 683).refusal);
 }
@@ -59,4 +69,5 @@ pub(crate) fn show() {
     lists();
     logs();
     days();
+    spoilt_days();
 }

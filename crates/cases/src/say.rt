@@ -4,7 +4,7 @@ use libc::STDOUT_FILENO;
 pub(crate) fn number(what: &[u8], got: u64) {
     io::write_all(STDOUT_FILENO, what);
     io::write_all(STDOUT_FILENO, b" ");
-    io::number::print_decimal(STDOUT_FILENO, got);
+    io::print_decimal(STDOUT_FILENO, got);
     io::write_all(STDOUT_FILENO, b"\n");
 }
 

@@ -1,5 +1,6 @@
 // Settling: an unfit bank, a budget on both sides of what is needed, and a full bank, opened and spoilt.
 use crate::say;
+use crate::steps::eight_more;
 use crate::steps::opened;
 use group::Bank;
 
@@ -11,20 +12,21 @@ fn say_settled(what: &[u8], s: settler::Settled) {
 
 // 16 controllers with 32 broadcasts.
 fn full() -> [u16; Bank::WORDS] {
-    let mut bank = opened(16, 1);
-    for m in 0..32 {
-        group::step(&mut bank, 1, m % 16, m, m);
+    eight_more(eight_more(eight_more(eight_more(opened(16, 1)))))
+}
+
+fn fill(words: &mut [u16]) {
+    let mut i = 0;
+    while i < words.len() {
+        words[i] = 65535;
+        i += 1;
     }
-    bank
 }
 
 // A fit header over a body of set bits.
 fn spoilt() -> [u16; Bank::WORDS] {
-    let mut bank = [65535u16; Bank::WORDS];
-    let header = full();
-    for i in 0..36 {
-        bank[i] = header[i];
-    }
+    let mut bank = full();
+    fill(&mut bank[Bank::LOGS..]);
     bank
 }
 

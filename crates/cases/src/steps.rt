@@ -146,14 +146,28 @@ fn deliveries() {
     );
 }
 
+// A bank with seven broadcasts more, and with eight.
+fn seven_more(bank: [u16; Bank::WORDS]) -> [u16; Bank::WORDS] {
+    let mut bank = bank;
+    group::step(&mut bank, 1, 0, 0, 1);
+    group::step(&mut bank, 1, 1, 95, 2);
+    group::step(&mut bank, 1, 2, 96, 3);
+    group::step(&mut bank, 1, 3, 191, 4);
+    group::step(&mut bank, 1, 13, 192, 5);
+    group::step(&mut bank, 1, 14, 65472, 6);
+    group::step(&mut bank, 1, 15, 65535, 7);
+    bank
+}
+
+pub(crate) fn eight_more(bank: [u16; Bank::WORDS]) -> [u16; Bank::WORDS] {
+    let mut bank = seven_more(bank);
+    group::step(&mut bank, 1, 7, 9600, 8);
+    bank
+}
+
 // Broadcast 32 is fine, the 33rd is not.
 fn broadcasts() {
-    let mut bank = opened(16, 1);
-    let mut last = 0;
-    for m in 0..31 {
-        last = group::step(&mut bank, 1, m % 16, m, m);
-    }
-    say::refusal(b"broadcast 31", last);
+    let mut bank = seven_more(eight_more(eight_more(eight_more(opened(16, 1)))));
     say::refusal(b"broadcast 32", group::step(&mut bank, 1, 15, 65535, 65535));
     say::refusal(b"broadcast 33", group::step(&mut bank, 1, 0, 0, 0));
 }

@@ -1,4 +1,4 @@
--- The face's answers case by case: another length, a refusal and a call that is done.
+-- The face's answers: another length is unfit; of a bank's bytes they are what the crate below answers.
 use Prim.Native.Nat.{ℕ, _*_}
 use mathlib.Core.Path.{_≡_, refl}
 use mathlib.Core.Bool.{Bool, true, false, cond}
@@ -27,17 +27,11 @@ kept bytes b h = stop (bytesOf b) (ne-eqb _ _ h) refl
 pub written : (bytes b : List ℕ) {r : ℕ} → r ≡ 0 → bytesAfter bytes r b ≡ bytesOf b
 written bytes b e = pass bytes (eq-eqb _ _ e) refl
 
--- ---- opening and one step
+-- ---- what a call on a bank's bytes answers, where they are written back as bytesAfter says
 
-pub refused : {bytes b : List ℕ} {r : ℕ} {due : Answer} → Called bytes (answer r b) due → (r ≡ 0 → ⊥)
-    → answer r bytes ≡ onBytes bytes due
-refused {bytes} {b} c n = rw (← c .same, eq-eqb _ _ (c .whole), kept bytes b n)
-
-pub done : {bytes b new : List ℕ} {r : ℕ} {due : Answer} → Called bytes (answer r b) due → r ≡ 0 → new ≡ bytesOf b
-    → answer 0 new ≡ onBytes bytes due
-done {bytes} {b} c z n = rw (← c .same, eq-eqb _ _ (c .whole), written bytes b z, z, n)
-
--- ---- settling and the tally
+pub answered : {bytes b new : List ℕ} {r : ℕ} {due : Answer} → Called bytes (answer r b) due
+    → new ≡ bytesAfter bytes r b → answer r new ≡ onBytes bytes due
+answered c n = rw (← c .same, eq-eqb _ _ (c .whole), n)
 
 pub settled : {bytes b new : List ℕ} {r k f : ℕ} {q : Bool} {due : Ending} → Called bytes (ending r k q b) due
     → f ≡ flag q → new ≡ bytesAfter bytes r b → settledBytes r k f new ≡ settleOnBytes bytes due

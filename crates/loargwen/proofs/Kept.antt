@@ -38,9 +38,9 @@ chosen : {A B : Type 0} (part : A → B) (t : Bool) (x y : A) → part (cond t x
 chosen part true x y = refl
 chosen part false x y = refl
 
-answered : (bytes new : List ℕ) (r : ℕ) (due : Answer) → answer r new ≡ onBytes bytes due
+answer-left : (bytes new : List ℕ) (r : ℕ) (due : Answer) → answer r new ≡ onBytes bytes due
     → Left bytes new r (due .refusal) (due .bank)
-answered bytes new r due e = record {
+answer-left bytes new r due e = record {
   number = ap (λ a. a .refusal) e ∙ chosen (λ (a : Answer). a .refusal) (isBank bytes) _ _;
   held = ap (λ a. a .bank) e ∙ chosen (λ (a : Answer). a .bank) (isBank bytes) _ _;
 }
@@ -48,36 +48,36 @@ answered bytes new r due e = record {
 -- ---- each call that may write
 
 module _ (bytes : List ℕ) (n k : ℕ) {r : ℕ} {new : List ℕ} (e : OpenBytes bytes n k r new) where
-  opened : Left bytes new r (openOf paper (wordsOf bytes) n k .refusal) (openOf paper (wordsOf bytes) n k .bank)
-  opened = answered bytes new r _ e
+  open-left : Left bytes new r (openOf paper (wordsOf bytes) n k .refusal) (openOf paper (wordsOf bytes) n k .bank)
+  open-left = answer-left bytes new r _ e
 
   pub open-refused : (r ≡ 0 → ⊥) → new ≡ bytes
-  open-refused = unchanged opened
+  open-refused = unchanged open-left
 
   pub open-hands-on : r ≡ 0 → wordsOf new ≡ openOf paper (wordsOf bytes) n k .bank
-  open-hands-on = handed-on opened
+  open-hands-on = handed-on open-left
 
 module _ (bytes : List ℕ) (kind x y z : ℕ) {r : ℕ} {new : List ℕ} (e : StepBytes bytes kind x y z r new) where
-  stepped : Left bytes new r (stepOf paper (wordsOf bytes) kind x y z .refusal)
+  step-left : Left bytes new r (stepOf paper (wordsOf bytes) kind x y z .refusal)
       (stepOf paper (wordsOf bytes) kind x y z .bank)
-  stepped = answered bytes new r _ e
+  step-left = answer-left bytes new r _ e
 
   pub step-refused : (r ≡ 0 → ⊥) → new ≡ bytes
-  step-refused = unchanged stepped
+  step-refused = unchanged step-left
 
   pub step-hands-on : r ≡ 0 → wordsOf new ≡ stepOf paper (wordsOf bytes) kind x y z .bank
-  step-hands-on = handed-on stepped
+  step-hands-on = handed-on step-left
 
 module _ (bytes : List ℕ) (budget : ℕ) {r k q : ℕ} {new : List ℕ} (e : SettleBytes bytes budget r k q new) where
-  settled : Left bytes new r (settleOf paper (wordsOf bytes) budget .refusal)
+  settle-left : Left bytes new r (settleOf paper (wordsOf bytes) budget .refusal)
       (settleOf paper (wordsOf bytes) budget .bank)
-  settled = record {
+  settle-left = record {
     number = ap (λ s. s .refusal) e ∙ chosen (λ (s : SettledBytes). s .refusal) (isBank bytes) _ _;
     held = ap (λ s. s .bytes) e ∙ chosen (λ (s : SettledBytes). s .bytes) (isBank bytes) _ _;
   }
 
   pub settle-refused : (r ≡ 0 → ⊥) → new ≡ bytes
-  settle-refused = unchanged settled
+  settle-refused = unchanged settle-left
 
   pub settle-hands-on : r ≡ 0 → wordsOf new ≡ settleOf paper (wordsOf bytes) budget .bank
-  settle-hands-on = handed-on settled
+  settle-hands-on = handed-on settle-left

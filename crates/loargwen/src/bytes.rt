@@ -3,6 +3,7 @@ ghost use mathlib.Core.Path.{_≡_};
 ghost use Prim.Native.Nat.{_+_, _*_};
 ghost use lib.ListN.{length};
 ghost use Rattle.loargwen.specs.Bytes.{wordsOf, bytesOf};
+ghost use Rattle.loargwen.specs.Face.{bytesAfter};
 
 fn word(low: u8, high: u8) -> u16
     ensures { λ r. ⌜ r ≡ low + 256 * high ⌝ }
@@ -21,7 +22,7 @@ pub(crate) fn load(bytes: &[u8], words: &mut [u16])
     }
 }
 
-pub(crate) fn store(words: &[u16], bytes: &mut [u8])
+fn store(words: &[u16], bytes: &mut [u8])
     requires { ⌜ length (now bytes) ≡ 2 * length (now words) ⌝ }
     ensures { λ _. ⌜ now (bytes .exit) ≡ bytesOf (now (words .entry)) ⌝ }
 {
@@ -31,5 +32,15 @@ pub(crate) fn store(words: &[u16], bytes: &mut [u8])
         bytes[2 * k] = (w % 256) as u8;
         bytes[2 * k + 1] = (w / 256) as u8;
         k += 1;
+    }
+}
+
+// Writes the words back where nothing was refused.
+pub(crate) fn write_back(refusal: u16, words: &[u16], bytes: &mut [u8])
+    requires { ⌜ length (now bytes) ≡ 2 * length (now words) ⌝ }
+    ensures { λ _. ⌜ now (bytes .exit) ≡ bytesAfter (now (bytes .entry)) refusal (now (words .entry)) ⌝ }
+{
+    if refusal == 0 {
+        store(words, bytes);
     }
 }

@@ -1,5 +1,5 @@
 // The C face of the station's scheduler: opening, one step, the settler and the tally, on numbers and a byte slice that
-// stands for the bank. Each call takes the bytes apart, asks the crate below, and writes the bytes back where nothing was
+// stands for the bank. Each call takes the bytes apart and asks the crate below; the bytes are written where nothing is
 // refused. include/loargwen.h is what a C program sees.
 mod bytes;
 
@@ -46,11 +46,8 @@ pub extern "C" fn loargwen_open(bank: &mut [u8], n: u16, mode: u16) -> u16
     let mut words = [0u16; Bank::WORDS];
     bytes::load(bank, &mut words);
     let r = group::open(&mut words, n, mode);
-    if r != 0 {
-        return r;
-    }
-    bytes::store(&words, bank);
-    0
+    bytes::write_back(r, &words, bank);
+    r
 }
 
 #[no_mangle]
@@ -63,11 +60,8 @@ pub extern "C" fn loargwen_step(bank: &mut [u8], kind: u16, a: u16, b: u16, c: u
     let mut words = [0u16; Bank::WORDS];
     bytes::load(bank, &mut words);
     let r = group::step(&mut words, kind, a, b, c);
-    if r != 0 {
-        return r;
-    }
-    bytes::store(&words, bank);
-    0
+    bytes::write_back(r, &words, bank);
+    r
 }
 
 #[no_mangle]
@@ -84,9 +78,7 @@ pub extern "C" fn loargwen_settle(bank: &mut [u8], budget: u16) -> Settled
     let mut words = [0u16; Bank::WORDS];
     bytes::load(bank, &mut words);
     let s = settler::settle(&mut words, budget);
-    if s.refusal == 0 {
-        bytes::store(&words, bank);
-    }
+    bytes::write_back(s.refusal, &words, bank);
     Settled {
         refusal: s.refusal,
         steps: s.steps,

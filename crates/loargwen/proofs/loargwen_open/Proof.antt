@@ -2,7 +2,7 @@
 use Rattle.group.specs.Layout.{paper}
 use Rattle.group.specs.Opening.{answer, openOf}
 use Rattle.loargwen.specs.Bytes.{wordsOf}
-use Rattle.loargwen.proofs.Answers.{Called, no-bank, refused, done}
+use Rattle.loargwen.proofs.Answers.{Called, no-bank, answered}
 use borrow.Author.Needs.{needs}
 use Rattle.loargwen.proofs.loargwen_open.Statement.{statement}
 use Rattle.loargwen.proofs.loargwen_open.Tie as tie
@@ -31,25 +31,18 @@ slice-aggregate-open c = search needs
 open-requires : tie.Need-open-requires
 open-requires c κs = search needs
 
+slice-aggregate-write-back : tie.Need-slice-aggregate-write-back
+slice-aggregate-write-back c = search needs
+
+write-back-requires : tie.Need-write-back-requires
+write-back-requires c κs = search needs
+
 same-length : tie.Need-same-length
 same-length c = search needs
 
 returns-2 : tie.Need-returns-2
-returns-2 c = refused (called (c .before .before)) (c .if2 .taken)
-
-slice-aggregate-store : tie.Need-slice-aggregate-store
-slice-aggregate-store c = search needs
-
-store-requires : tie.Need-store-requires
-store-requires c κs = search needs
-
-same-length-2 : tie.Need-same-length-2
-same-length-2 c = search needs
-
-returns-3 : tie.Need-returns-3
-returns-3 c =
-    let left = c .before .before .before .before .before in
-    done (called (left .before .before)) (left .if2 .left) (c .before .before .store .ensures)
+returns-2 c =
+    let w = c .before .before in answered (called (w .before .before .before .before)) (w .write-back .ensures)
 
 pub loargwen-open-spec : {M : Type 1} → statement M
 loargwen-open-spec =
@@ -60,9 +53,7 @@ loargwen-open-spec =
     load-requires
     slice-aggregate-open
     open-requires
+    slice-aggregate-write-back
+    write-back-requires
     same-length
-    returns-2
-    slice-aggregate-store
-    store-requires
-    same-length-2
-    returns-3)
+    returns-2)

@@ -1,12 +1,8 @@
 -- loargwen_settle: the settler's answer on the bank that the bytes stand for; the bytes are written where it is 0.
-use mathlib.Core.Path.{_≡_, sym, ap, _∙_}
-use mathlib.Core.Logic.{⊎-elim}
-use lib.ListN.{length}
 use Rattle.group.specs.Layout.{paper}
 use Rattle.settler.specs.Settling.{ending, settleOf}
 use Rattle.loargwen.specs.Bytes.{wordsOf}
-use Rattle.loargwen.specs.Face.{bytesAfter}
-use Rattle.loargwen.proofs.Answers.{Called, no-bank, kept, written, settled}
+use Rattle.loargwen.proofs.Answers.{Called, no-bank, settled}
 use borrow.Author.Needs.{needs}
 use Rattle.loargwen.proofs.loargwen_settle.Statement.{statement}
 use Rattle.loargwen.proofs.loargwen_settle.Tie as tie
@@ -20,17 +16,6 @@ called c = record {
   whole = c .before .before .before .before .before .before .if1 .left;
   same = rw (c .before .before .before .load .ensures) at (c .settle .ensures);
 }
-
--- where the arms meet: stored or as they were
-after : (c : tie.Joined2) → let s = c .before .before .before in
-    c .if2 .bank
-    ≡ bytesAfter (s .before .before .before .before .before .before .before .before .args .bank .now)
-    (s .settle .result .refusal) (s .settle .last .0)
-after c =
-    ⊎-elim
-    (λ w. w .6 ∙ w .3 .ensures ∙ sym (written _ _ (w .0 .taken)))
-    (λ w. w .1 ∙ sym (kept _ _ (w .0 .left)))
-    (c .if2 .came)
 
 returns : tie.Need-returns
 returns c = rw (no-bank _ (c .if1 .taken))
@@ -47,20 +32,22 @@ slice-aggregate-settle c = search needs
 settle-requires : tie.Need-settle-requires
 settle-requires c κs = search needs
 
-slice-aggregate-store : tie.Need-slice-aggregate-store
-slice-aggregate-store c = search needs
+slice-aggregate-write-back : tie.Need-slice-aggregate-write-back
+slice-aggregate-write-back c = search needs
 
-store-requires : tie.Need-store-requires
-store-requires c κs = search needs
+write-back-requires : tie.Need-write-back-requires
+write-back-requires c κs = search needs
 
 flag-requires : tie.Need-flag-requires
 flag-requires c κs = search needs
 
 same-length : tie.Need-same-length
-same-length c = ⊎-elim (λ w. ap length (w .6) ∙ w .3 .kept .1 .0) (λ w. ap length (w .1)) (c .before .if2 .came)
+same-length c = search needs
 
 returns-2 : tie.Need-returns-2
-returns-2 c = settled (called (c .before .before .before .before)) (c .flag .ensures) (after (c .before))
+returns-2 c =
+    let w = c .before .before .before in
+    settled (called (w .before .before .before .before)) (c .flag .ensures) (w .write-back .ensures)
 
 pub loargwen-settle-spec : {M : Type 1} → statement M
 loargwen-settle-spec =
@@ -71,8 +58,8 @@ loargwen-settle-spec =
     load-requires
     slice-aggregate-settle
     settle-requires
-    slice-aggregate-store
-    store-requires
+    slice-aggregate-write-back
+    write-back-requires
     flag-requires
     same-length
     returns-2)
