@@ -1,5 +1,5 @@
 -- What stands at a place of a file, test by test in the order of the definition; a record moves on and stays within.
-use mathlib.Core.Path.{_≡_, refl}
+use mathlib.Core.Path.{_≡_, refl, sym, subst}
 use mathlib.Core.Bool.{Bool, true, false, cond, not, _&&_, _||_, false≢true}
 use mathlib.Core.List.{List}
 use Prim.Native.Nat.{ℕ, _+_, _%_, _≤_, _<_}
@@ -7,7 +7,7 @@ use native.Mathlib.Omega.{arith}
 use lib.Dec.{eqb, leb}
 use lib.ListN.{length}
 use borrow.Author.Tests.{le-leb, lt-leb, leb-true, eq-eqb, ne-eqb, not-false}
-use Rattle.file.specs.Records.{Found, end, bad, got, wordAt, numberAt, openKind, lengthOf, wellCut, findAt}
+use Rattle.file.specs.Records.{Found, end, bad, got, wordAt, numberAt, openKind, lengthOf, wellCut, findAt, begun}
 
 module _ (s : List ℕ) (i : ℕ) where
   pub finds-end : length s ≤ i → end ≡ findAt s i
@@ -70,3 +70,15 @@ goes-onward s i =
     by-test (Onward s i) (eqb (lengthOf (wordAt s (i + 2))) 0 || eqb (wordAt s (i + 2)) openKind) (λ _. tt) λ _.
     by-test (Onward s i) (eqb (wordAt s i) (lengthOf (wordAt s (i + 2))))
     (λ _. let w = whole s i (not-false (wellCut s i) cut) in (omega arith, w .0)) λ _. tt
+
+pub record-onward : (s : List ℕ) (i : ℕ) {kind x y z j : ℕ} → got kind x y z j ≡ findAt s i
+    → (i + 6 ≤ j) × (j ≤ length s)
+record-onward s i e = subst (Onward s i) (sym e) (goes-onward s i)
+
+-- ---- a file that is begun
+
+pub begun-length : (s : List ℕ) → begun s ≡ true → (8 ≤ length s) × (length s ≤ 65536)
+unfolding begun
+begun-length s e =
+    let p1 = both (leb (length s) 65536) _ e in
+    let p2 = both (leb 8 (length s)) _ (p1 .1) in (leb-true _ _ (p2 .0), leb-true _ _ (p1 .0))

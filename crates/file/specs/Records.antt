@@ -31,7 +31,7 @@ pub data Found : Type 0 where
 
 -- the k-th number of the record at place i, 0 where the record is too short for it
 abbrev pub numberAt : List ℕ → ℕ → ℕ → ℕ
-numberAt s i k = cond (leb (4 + 2 * k) (wordAt s i)) (wordAt s (i + 2 + 2 * k)) 0
+numberAt s i k = cond (leb (2 + 2 * k) (wordAt s i)) (wordAt s (i + 2 + 2 * k)) 0
 
 -- whether the record at place i is whole, of even length, at least 4
 abbrev pub wellCut : List ℕ → ℕ → Bool

@@ -77,7 +77,7 @@ fn number_at(s: &[u8], i: usize, k: u16) -> u16
     requires { ⌜ (i < length (now s)) × (k ≤ 3) ⌝ }
     ensures { λ r. ⌜ r ≡ numberAt (now (s .entry)) i k ⌝ }
 {
-    if word_at(s, i) < 4 + 2 * k {
+    if word_at(s, i) < 2 + 2 * k {
         return 0;
     }
     word_at(s, i + 2 + 2 * (k as usize))

@@ -23,7 +23,8 @@ pub step-determined : (b : List ℕ) (kind x y z : ℕ) {r s : ℕ} {c d : List 
     → StepPromise b kind x y z s d → (r ≡ s) × (c ≡ d)
 step-determined b kind x y z e f = one-answer e f
 
-pub run-determined : (b steps : List ℕ) {n k r s : ℕ} {c d : List ℕ} → RunPromise b steps n r c → RunPromise b steps k s d
+pub run-determined : (b steps : List ℕ) {n k r s : ℕ} {c d : List ℕ} → RunPromise b steps n r c
+    → RunPromise b steps k s d
     → (n ≡ k) × (r ≡ s) × (c ≡ d)
 run-determined b steps e f =
     let g = e ∙ sym f in (ap (λ o. o .accepted) g, ap (λ o. o .refusal) g, ap (λ o. o .bank) g)

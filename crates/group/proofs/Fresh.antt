@@ -26,7 +26,8 @@ puts-rising : (at : Field → ℕ) (g : Field → ℕ) (fs : List Field) (i : �
     → puts at r (map (λ f. f ≔ g f) fs) ≡ sets r i (map g fs)
 puts-rising at g [] i r h = refl
 puts-rising at g (f ∷ fs) i r h =
-    ap (λ k. puts at (set r k (g f)) (map (λ f. f ≔ g f) fs)) (h .0) ∙ puts-rising at g fs (suc i) (set r i (g f)) (h .1)
+    ap (λ k. puts at (set r k (g f)) (map (λ f. f ≔ g f) fs)) (h .0) ∙ puts-rising at g fs (suc i) (set r i (g f))
+    (h .1)
 
 rising-append : (at : Field → ℕ) (fs gs : List Field) (i j : ℕ) → i + length fs ≡ j → Rising at i fs → Rising at j gs
     → Rising at i (fs ++ gs)

@@ -12,7 +12,8 @@ use borrow.Author.Tests.{eq-eqb, ne-eqb, eqb-true}
 use Rattle.group.specs.Place.{Field, Place}
 use Rattle.group.specs.Place.{sender, stamp, value, held, delivered, acked, unsent, inFlight}
 use Rattle.group.specs.Place.{members, mode, count, up, view, logLength, log, message}
-use Rattle.group.specs.Layout.{Layout, start, recordWidths, recordSize, bankWidths, offset, recordAt, address, size}
+use Rattle.group.specs.Layout.{Layout, start, recordWidths, recordSize, bankWidths}
+use Rattle.group.specs.Layout.{offset, recordAt, address, size}
 use Rattle.group.proofs.Regions.{start-below, in-regions, one-spot, one-row}
 
 -- ---- a name as four numbers: the region of the bank, the run of words in its row, the index in the run, the row
@@ -87,7 +88,8 @@ module _ (L : Layout) where
   abbrev runs : ℕ → List ℕ
   runs r =
       getD
-      ((1 ∷ []) ∷ (1 ∷ []) ∷ (1 ∷ []) ∷ (1 ∷ []) ∷ (L .controllers ∷ []) ∷ (L .controllers ∷ []) ∷ (L .messages ∷ []) ∷ recordWidths L ∷ [])
+      ((1 ∷ []) ∷ (1 ∷ []) ∷ (1 ∷ []) ∷ (1 ∷ []) ∷ (L .controllers ∷ []) ∷ (L .controllers ∷ []) ∷
+      (L .messages ∷ []) ∷ recordWidths L ∷ [])
       r []
 
   abbrev rowSize : ℕ → ℕ
@@ -155,7 +157,8 @@ module _ (L : Layout) where
       omega (arith, offset-key f, digits-lt {q = m} {m = L .messages} (h .0) (offset-below f (h .1)))
 
   pub inside : (p : Place) → PlaceIn L p → address L p < size L
-  inside p h = rw address-key (start-below (bankWidths L) (key p .region) 8 (within (key p)) (region-below p) (in-region p h))
+  inside p h = rw address-key (start-below (bankWidths L) (key p .region) 8 (within (key p)) (region-below p)
+      (in-region p h))
     where
       region-below : (p : Place) → key p .region < 8
       region-below members = omega arith
@@ -180,7 +183,8 @@ module _ (L : Layout) where
   unfolding SameKey withinAt
   one-key p q hp hq e =
       let a =
-      one-spot (bankWidths L) (key p .region) (key q .region) (within (key p)) (within (key q)) (in-region p hp) (in-region q hq)
+      one-spot (bankWidths L) (key p .region) (key q .region) (within (key p)) (within (key q)) (in-region p hp)
+      (in-region q hq)
       (sym (address-key p) ∙ e ∙ address-key q) in
       let r : ℕ = key q .region in
       let ip : key p .index < getD (runs r) (key p .run) 0 =
@@ -218,6 +222,12 @@ module _ (L : Layout) where
   unfolding SameKey
   same-address p q hp hq =
       is-eqb (address L p) (address L q) (samePlace p q)
-      (λ e. let k = one-key p q hp hq e in rw (eq-eqb _ _ (k .0), eq-eqb _ _ (k .1), eq-eqb _ _ (k .2), eq-eqb _ _ (k .3)) refl)
+      (λ e. let k = one-key p q hp hq e in rw (
+        eq-eqb _ _ (k .0),
+        eq-eqb _ _ (k .1),
+        eq-eqb _ _ (k .2),
+        eq-eqb _ _
+            (k .3),
+      ) refl)
       (λ t. let a = both _ _ t in let b = both _ _ (a .1) in let c = both _ _ (b .1) in
       one-address p q (eqb-true _ _ (a .0), eqb-true _ _ (b .0), eqb-true _ _ (c .0), eqb-true _ _ (c .1)))

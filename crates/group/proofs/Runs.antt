@@ -53,7 +53,8 @@ module _ (L : Layout) (n : ℕ) (b s : List ℕ) (i r : ℕ) (b′ : List ℕ) (
   unfolding runFrom
   run-more z =
       ap (runFrom L n b) (four-words s i h)
-      ∙ pass _ (eq-eqb _ _ (sym number ∙ z)) (ap (λ c. runFrom L (n + 1) c (drop (i + 4) s)) (sym (ap (λ a. a .bank) p)))
+      ∙ pass _ (eq-eqb _ _ (sym number ∙ z)) (ap (λ c. runFrom L (n + 1) c (drop (i + 4) s)) (sym (ap
+      (λ a. a .bank) p)))
 
 pub run-end : (L : Layout) (n : ℕ) (b s : List ℕ) (i : ℕ) → length s ≤ i → runFrom L n b (drop i s) ≡ outcome n 0 b
 unfolding runFrom

@@ -1,4 +1,5 @@
-// A list of steps, applied in order up to the first refusal. Reads the list, writes the bank through single steps alone.
+// A list of steps, applied in order up to the first refusal. Reads the list, writes the bank through single steps
+// alone.
 ghost use Rattle.group.specs.Lists.{RunPromise};
 
 // How many steps were accepted, and the refusal that ended the list, or 0.
@@ -9,7 +10,8 @@ pub struct Ran {
 
 // Four words a step; what was applied before a refused step stays and is counted.
 pub fn run(bank: &mut [u16], steps: &[u16]) -> Ran
-    ensures { λ r. ⌜ RunPromise (now (bank .entry)) (now (steps .entry)) (r .accepted) (r .refusal) (now (bank .exit)) ⌝ }
+    ensures { λ r. ⌜ RunPromise (now (bank .entry)) (now (steps .entry)) (r .accepted) (r .refusal) (now
+        (bank .exit)) ⌝ }
 {
     if !crate::bank::fit(bank) {
         return Ran {

@@ -27,11 +27,13 @@ module _ (L : Layout) (b : List ℕ) where
   same-has p j h = ap (λ x. has x j) (seen-in L (words L b) p h)
 
   same-enough : (k n i m : ℕ) → i < L .controllers → m < L .messages
-      → enoughOf k n (λ a. has (visible L (words L b) (view i)) a) (λ a. has (visible L (words L b) (message m (acked i))) a)
+      → enoughOf k n (λ a. has (visible L (words L b) (view i)) a) (λ a. has (visible L (words L b) (message m
+      (acked i))) a)
       ≡ enough k n (words L b (view i)) (words L b (message m (acked i)))
   unfolding enoughOf enough within countBelow
   same-enough k n i m hi hm =
-      ap₂ (λ x y. enough k n x y) (seen-in L (words L b) (view i) hi) (seen-in L (words L b) (message m (acked i)) (hm, hi))
+      ap₂ (λ x y. enough k n x y) (seen-in L (words L b) (view i) hi) (seen-in L (words L b) (message m (acked i))
+      (hm, hi))
 
   pub allowed-ok : (s : Step) → Allowed L b s → Ok (L .messages) (setsOf L b) s
   unfolding setsOf sets recordSets visible

@@ -15,7 +15,8 @@ use Rattle.group.specs.Layout.{inRecord}
 use Rattle.group.specs.Writes.{fresh, sent, received}
 use Rattle.group.proofs.Places.{run, index, sameField, samePlace}
 use Rattle.group.proofs.Reading.{later}
-use Rattle.laws.specs.Sets.{RecordSets, Sets, put, putAt, newRecord, afterSend, afterReceive, afterDeliver, afterLose}
+use Rattle.laws.specs.Sets.{RecordSets, Sets, put, putAt, newRecord}
+use Rattle.laws.specs.Sets.{afterSend, afterReceive, afterDeliver, afterLose}
 use Rattle.laws.specs.Sets.{inMessage}
 
 -- ---- the sets of words
@@ -65,7 +66,8 @@ module _ (W : ℕ → ℕ) (i a : ℕ) where
   here : eqb i a ≡ true → W i ≡ W a
   here e = ap W (eqb-true i a e)
 
-  pub out-at : (j b : ℕ) → has (cond (eqb i a) (without (W i) j) (W a)) b ≡ cond (eqb i a && eqb j b) false (has (W a) b)
+  pub out-at : (j b : ℕ) → has (cond (eqb i a) (without (W i) j) (W a)) b ≡ cond (eqb i a && eqb j b) false (has
+      (W a) b)
   out-at j b = go (eqb i a) refl
     where
       go : (t : Bool) → eqb i a ≡ t → has (cond t (without (W i) j) (W a)) b ≡ cond (t && eqb j b) false (has (W a) b)
@@ -90,7 +92,8 @@ module _ (W : ℕ → ℕ) (i a : ℕ) where
       first false = has-with-all (W a) n b ∙ in-bool (has (W a) b) (ltb b n)
 
       go : (t : Bool) → eqb i a ≡ t
-          → has (cond t (cond (h i) (W i) (withAll (W i) n)) (W a)) b ≡ cond (t && (not (h a) && ltb b n)) true (has (W a) b)
+          → has (cond t (cond (h i) (W i) (withAll (W i) n)) (W a)) b ≡ cond (t && (not (h a) && ltb b n)) true (has
+          (W a) b)
       go true e =
           ap₂ (λ x y. has (cond (h x) y (withAll y n)) b) (eqb-true i a e) (here e) ∙ first (h a)
       go false e = refl

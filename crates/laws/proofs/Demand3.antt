@@ -61,7 +61,8 @@ settled-quietly b c n k before budget r t h p =
     subst (Finished paper b (chosen paper budget b)) (sym bank)
     (record { run = e .run; ended = e .quiet (sym (ap (λ x. x .quiet) p)) })
 
--- so whoever opens, runs a list and settles until no step is left has demand 3 of the bank, and the end that it speaks of
+-- so whoever opens, runs a list and settles until no step is left has demand 3 of the bank, and the end that it speaks
+-- of
 pub caller-knows : (b b₁ b₂ b₃ steps : List ℕ) (n k a s budget r t : ℕ) → OpenPromise b n k 0 b₁
     → RunPromise b₁ steps a s b₂ → SettlePromise b₂ budget r t true b₃
     → (before : List Step) × Demand3 paper n before b₂ × Finished paper b₂ (chosen paper budget b₂) b₃

@@ -1,4 +1,5 @@
--- One end for every order: two finished runs are equally long and leave banks that are the same but for the order in logs.
+-- One end for every order: two finished runs are equally long and leave banks that are the same but for the order in
+-- logs.
 use mathlib.Core.Path.{_≡_, refl, sym, ap, _∙_, subst}
 use mathlib.Core.Bool.{Bool, true, false, cond, true≢false}
 use mathlib.Core.List.{List, [], _∷_, _++_}
@@ -191,7 +192,8 @@ module _ (L : Layout) (n k : ℕ) where
         go false h =
             let u = ltb-false m (words L x count) h in
             nowhere (occurs m (logOf L x i)) (λ o. rx .broadcast i m l o) u
-            ∙ sym (nowhere (occurs m (logOf L y i)) (λ o. omega (arith, ry .broadcast i m ly o, same-members-count .1)) u)
+            ∙ sym (nowhere (occurs m (logOf L y i)) (λ o. omega
+            (arith, ry .broadcast i m ly o, same-members-count .1)) u)
 
     pub alike : Alike L x y
     alike =
@@ -209,6 +211,7 @@ module _ (L : Layout) (n k : ℕ) where
       → Finished L b fs y → (length es ≡ length fs) × Alike L x y
   same-end {x = x} {y = y} r p q =
       let s =
-      same-sets (L .messages) (reached-inv L r) (lift-settling L (p .run)) (quiet-sets (reached-on r (p .run)) (p .ended))
+      same-sets (L .messages) (reached-inv L r) (lift-settling L (p .run)) (quiet-sets (reached-on r (p .run))
+      (p .ended))
       (lift-settling L (q .run)) (quiet-sets (reached-on r (q .run)) (q .ended)) in
       (s .1, alike x y r (p .run) (q .run) (sym (s .0)))

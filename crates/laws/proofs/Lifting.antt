@@ -32,7 +32,11 @@ module _ (L : Layout) where
   pub lift-settling : {b c : List ℕ} {es : List Step} → Run (Settling (Allowed L)) (after L) b es c
       → Run (Settling (Ok (L .messages))) act (setsOf L b) es (setsOf L c)
   lift-settling r =
-      lift (Settling (Allowed L)) (Settling (Ok (L .messages))) (λ b e a. a .1) (λ b e a. (a .0, allowed-ok L b e (a .1))) r
+      lift (Settling (Allowed L)) (Settling (Ok (L .messages))) (λ b e a. a .1) (λ b e a. (
+        a .0,
+        allowed-ok L b e
+            (a .1),
+      )) r
 
   pub reached-sets : {n k : ℕ} {before : List Step} {b : List ℕ} → Reached L n k before b
       → Run (Ok (L .messages)) act (openSets n k) before (setsOf L b)

@@ -56,7 +56,8 @@ module _ (L : Layout) where
 
       go : (t : Bool) → eqb (refusalOf L b kind x y z) 0 ≡ t
           → (es : List Step) × Run (Allowed L) (after L) (stepOf L b kind x y z .bank) es (more .bank)
-          → (es : List Step) × Run (Allowed L) (after L) b es (cond t more (outcome n (refusalOf L b kind x y z) b) .bank)
+          → (es : List Step) × Run (Allowed L) (after L) b es (cond t more (outcome n
+          (refusalOf L b kind x y z) b) .bank)
       go true e (es, r) =
           let s = accepted-step b kind x y z (eqb-true _ 0 e) in
           (s .0 ∷ es, next (s .1) (subst (λ c. Run (Allowed L) (after L) c es (more .bank)) (s .2) r))

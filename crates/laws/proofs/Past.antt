@@ -87,7 +87,11 @@ module _ (L : Layout) where
   delivered-step b j m a i l =
       record {
         grows = go (eqb j i) refl;
-        absent = λ h. here ∙ unless j i _ _ (λ e. lt-irrefl j (omega (arith, ltb-true j (words L b members) (a .free .0))));
+        absent = λ h. here ∙ unless j i _ _ (λ e. lt-irrefl j (omega (
+          arith,
+          ltb-true j (words L b members)
+              (a .free .0),
+        )));
         past = λ k h g.
             word-after L b (deliver j m) a (log i k) (l, h)
             ∙ unless-both (words L b (logLength j)) k j i m _

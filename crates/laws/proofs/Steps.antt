@@ -16,7 +16,8 @@ use Rattle.group.specs.Promises.{Allowed, after}
 use Rattle.group.proofs.Places.{key, PlaceIn, FieldIn}
 use Rattle.group.proofs.Reading.{later, later-append}
 use Rattle.group.proofs.Bounds.{controller-below}
-use Rattle.laws.specs.Sets.{RecordSets, Sets, setsWith, inMessage, act, newRecord, afterSend, afterReceive, afterDeliver, afterLose}
+use Rattle.laws.specs.Sets.{RecordSets, Sets, setsWith, inMessage, act}
+use Rattle.laws.specs.Sets.{newRecord, afterSend, afterReceive, afterDeliver, afterLose}
 use Rattle.laws.proofs.Visible.{visible, seen-outside, seen-after}
 use Rattle.laws.proofs.Bridge.{recordSets, sets, laterIn, out-one, out-at}
 use Rattle.laws.proofs.Bridge.{sets-sent, sets-received, sets-delivered, sets-lost, sets-fresh}
@@ -36,7 +37,8 @@ module _ (w : Words) (m : ℕ) (xs : List (Write Field)) (F : RecordSets → Rec
       go true e =
           subst
           (λ k.
-          recordSets (λ f. later (inRecord m xs) (message k f) (w (message k f))) ≡ F (recordSets (λ f. w (message k f))))
+          recordSets (λ f. later (inRecord m xs) (message k f) (w (message k f))) ≡ F (recordSets (λ f. w
+          (message k f))))
           (eqb-true m k e)
           (ap recordSets (fun-ext (λ f. this-message m xs f (λ g. w (message m g)))) ∙ h)
       go false e = ap recordSets (fun-ext (λ f. other-message m k xs f (w (message k f)) e))
@@ -65,7 +67,8 @@ Named L (lose from to m) = Unit {0}
 
 module _ (w : Words) where
   -- a log's words are no sets
-  deliver-sets : (L : Layout) (i m : ℕ) → sets (λ p. later (writes L w (deliver i m)) p (w p)) ≡ act (sets w) (deliver i m)
+  deliver-sets : (L : Layout) (i m : ℕ) → sets (λ p. later (writes L w (deliver i m)) p (w p)) ≡ act (sets w)
+      (deliver i m)
   unfolding act sets
   deliver-sets L i m =
       record-sets w m (delivered ≔ with (w (message m delivered)) i ∷ []) (afterDeliver i)
@@ -119,7 +122,8 @@ module _ (L : Layout) (w : Words) (out : (m : ℕ) (f : Field) → (FieldIn L f 
       (ap recordSets (fun-ext (fresh-whole L (w members) who s v (λ f. w (message m f)) l (out m)))
       ∙ sets-fresh (w members) who s v))
   written-sets (send from to m) l =
-      record-sets w m (sent from to (λ f. w (message m f))) (afterSend from to) (sets-sent from to (λ f. w (message m f)))
+      record-sets w m (sent from to (λ f. w (message m f))) (afterSend from to) (sets-sent from to (λ f. w
+      (message m f)))
   written-sets (receive i from m) l =
       record-sets w m (received (w members) i from (λ f. w (message m f))) (afterReceive (w members) i from)
       (sets-received (w members) i from (λ f. w (message m f)))
@@ -137,7 +141,8 @@ setsOf L b = sets (visible L (words L b))
 
 pub sets-after : (L : Layout) (b : List ℕ) (s : Step) → Allowed L b s → setsOf L (after L b s) ≡ act (setsOf L b) s
 unfolding setsOf
-sets-after L b s a = ap sets (seen-after L b s a) ∙ written-sets L (visible L (words L b)) (seen-outside L (words L b)) s (named s a)
+sets-after L b s a = ap sets (seen-after L b s a) ∙ written-sets L (visible L (words L b)) (seen-outside L
+    (words L b)) s (named s a)
   where
     named : (s : Step) → Allowed L b s → Named L s
     named (broadcast who s v) a = controller-below L b (a .sound) who (a .free .0)

@@ -20,18 +20,21 @@ use Rattle.laws.specs.Demand.{Finished, Alike, Quorum}
 
 -- of a group of n controllers, after the accepted steps `before`, whose bank is now b
 pub record Demand3 (L : Layout) (n : ℕ) (before : List Step) (b : List ℕ) : Type 0 where
-  -- "At every moment, a log holds only messages that were broadcast, none twice, with the sender's own stamp and value."
+  -- "At every moment, a log holds only messages that were broadcast, none twice, with the sender's own stamp and
+  -- value."
   pub logs-hold-broadcasts : LogsRight L b
   pub records-hold-broadcasts : HistoryRight L before b
   pub fit : Fit L b
   -- "From there take only sends, receipts, detections and deliveries until none is left.": it ends
   pub bounded : (es : List Step) (x : List ℕ) → Run (Settling (Allowed L)) (after L) b es x
       → settlings before + length es ≤ most n (words L b count)
-  -- "finishing the messages one after another": with a budget of that much the settler leaves none, taking detects first
+  -- "finishing the messages one after another": with a budget of that much the settler leaves none, taking detects
+  -- first
   -- and then the messages in rising order
   pub one-after-another : (d : ℕ) → most n (words L b count) ≤ d
       → Finished L b (chosen L d b) (settleOf L b d .bank) × InTurn 0 (chosen L d b)
-  -- "Every order takes equally many steps and ends with the same sets as finishing the messages one after another; only the
+  -- "Every order takes equally many steps and ends with the same sets as finishing the messages one after another;
+  -- only the
   -- order inside the logs may differ.": any two orders, the settler's among them
   pub same-end : (es fs : List Step) (x y : List ℕ) → Finished L b es x → Finished L b fs y
       → (length es ≡ length fs) × Alike L x y

@@ -3,5 +3,4 @@ pub mod First
 pub mod Free
 pub mod Taking
 pub mod Endings
-pub mod Left
 pub mod Determined

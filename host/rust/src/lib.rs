@@ -6,14 +6,15 @@
 //! - `words`, `words_file`: a straightforward version on words, for ratios;
 //! - `random`, `banks`, `files`: what is fed to both sides;
 //! - `contest`, `cases`, `figures`: one call made on both sides, and whole cases of calls;
-//! - `face`: the C face of the archive (feature `archive`);
+//! - `face`: the C face of the archive, linked (feature `archive`);
+//! - `served`: the same in a process of its own, for machines that the archive is not made for;
 //! - `plant`: faults that can be planted in the rules, which a comparison has to find;
 //! - `args`, `measure`: what the programs share.
 //!
 //! Programs: `compare` (the archive, random calls), `files` (the bench, random files), `benchmark`
 //! (ratios), `plain` (the bench on the straightforward version). Without arguments the first two
-//! say how they are called. `compare` and `benchmark` need the feature `archive` and, when built,
-//! LOARGWEN_LIB, the folder of libloargwen.a.
+//! say how they are called. `benchmark`, and `compare` without `--served`, need the feature `archive`
+//! and, when built, LOARGWEN_LIB, the folder of libloargwen.a.
 
 pub mod answer;
 pub mod args;
@@ -33,6 +34,7 @@ pub mod plant;
 pub mod random;
 pub mod refusal;
 pub mod rules;
+pub mod served;
 pub mod set;
 pub mod settler;
 pub mod step;

@@ -21,8 +21,8 @@ returns : tie.Need-returns
 returns c =
     let s = c .before .before .before .args in
     let e = c .before .word-at .ensures in
-    let short : wordAt (s .s .now) (s .i) < 4 + 2 * s .k = omega arith in
-    rw (lt-leb (4 + 2 * s .k) (wordAt (s .s .now) (s .i)) short)
+    let short : wordAt (s .s .now) (s .i) < 2 + 2 * s .k = omega arith in
+    rw (lt-leb (2 + 2 * s .k) (wordAt (s .s .now) (s .i)) short)
 
 add-word-at : tie.Need-add-word-at
 add-word-at c = search needs
@@ -40,8 +40,8 @@ returns-2 : tie.Need-returns-2
 returns-2 c =
     let s = c .before .before .before .before .args in
     let e = c .before .before .word-at .ensures in
-    let long : 4 + 2 * s .k ≤ wordAt (s .s .now) (s .i) = omega arith in
-    rw (le-leb (4 + 2 * s .k) (wordAt (s .s .now) (s .i)) long) (c .word-at2 .ensures)
+    let long : 2 + 2 * s .k ≤ wordAt (s .s .now) (s .i) = omega arith in
+    rw (le-leb (2 + 2 * s .k) (wordAt (s .s .now) (s .i)) long) (c .word-at2 .ensures)
 
 pub number-at-spec : {M : Type 1} → statement M
 number-at-spec =

@@ -5,19 +5,21 @@ use std::time::{Duration, Instant};
 
 use loargwen_host::args::Args;
 use loargwen_host::cases;
-use loargwen_host::contest::Setting;
-use loargwen_host::face::Archive;
+use loargwen_host::contest::{Calls, Setting};
 use loargwen_host::figures::Figures;
 use loargwen_host::plant::Plant;
+use loargwen_host::served::Served;
 
 const USAGE: &str =
     "usage: compare SEED STEPS [--minutes M] [--case K] [--only NAME] [--guard BYTES]
-                          [--plant NAME]
+                          [--plant NAME] [--served COMMAND]
   runs cases until STEPS single steps were compared and, with --minutes, until time is up;
   --case runs that case alone, --only those of one name (spoilt, 'unfit log', days, ...);
   --guard 0 makes each bank an allocation of its own, for valgrind (64 else);
-  --plant puts a fault into the model, which must be found";
-const FLAGS: [&str; 5] = ["minutes", "case", "only", "guard", "plant"];
+  --plant puts a fault into the model, which must be found;
+  --served calls the archive in the process of COMMAND, one word split at blanks, not the linked one
+exit status: 0 no difference, 1 a difference, 2 the comparison could not be made";
+const FLAGS: [&str; 6] = ["minutes", "case", "only", "guard", "plant", "served"];
 
 /// What the command line asks for.
 struct Request {
@@ -28,17 +30,21 @@ struct Request {
     only: Option<String>,
     guard: usize,
     plant: Option<Plant>,
+    served: Option<String>,
     again: String,
 }
 
 /// The flags that a case needs when it is run again.
 fn again(args: &Args) -> String {
-    let kept = ["guard", "plant"].map(|name| (name, args.flag(name)));
+    let kept = ["guard", "plant", "served"].map(|name| (name, args.flag(name)));
     let flags = kept
         .into_iter()
         .filter_map(|(name, value)| Some((name, value?)));
     flags
-        .map(|(name, value)| format!(" --{name} {value}"))
+        .map(|(name, value)| match value.contains(' ') {
+            true => format!(" --{name} '{value}'"),
+            false => format!(" --{name} {value}"),
+        })
         .collect()
 }
 
@@ -64,14 +70,15 @@ fn request() -> Result<Request, String> {
         only: only(&args)?,
         guard: args.flag_number("guard")?.unwrap_or(64),
         plant: args.flag("plant").map(Plant::named).transpose()?,
+        served: args.flag("served").map(str::to_string),
         again: again(&args),
     })
 }
 
 /// Runs all cases asked for, up to the first difference; the case is told with it.
-fn run(request: &Request, figures: &mut Figures) -> Result<(), (u64, String)> {
+fn run(request: &Request, calls: &dyn Calls, figures: &mut Figures) -> Result<(), (u64, String)> {
     let setting = Setting {
-        calls: &Archive,
+        calls,
         plant: request.plant,
         seed: request.seed,
         guard: request.guard,
@@ -91,6 +98,42 @@ fn run(request: &Request, figures: &mut Figures) -> Result<(), (u64, String)> {
     }
 }
 
+/// Runs the comparison on these calls and prints what came of it; whether there was no difference.
+fn compare(request: &Request, calls: &dyn Calls) -> bool {
+    let mut figures = Figures::default();
+    let began = Instant::now();
+    let done = run(request, calls, &mut figures);
+    let seed = request.seed;
+    print!("seed {seed}\n{figures}");
+    match &done {
+        Ok(()) => println!("no difference, {:.1} s", began.elapsed().as_secs_f64()),
+        Err((number, text)) => {
+            let again = &request.again;
+            println!("difference: {text}  again: compare {seed} 0 --case {number}{again}");
+        }
+    }
+    done.is_ok()
+}
+
+/// Compares with the archive in a process, which must end well too.
+fn compare_served(request: &Request, command: &str) -> Result<bool, String> {
+    let served = Served::start(command)?;
+    let same = compare(request, &served);
+    let ended = served.finish();
+    ended.map_err(|text| format!("the served process failed: {text}"))?;
+    Ok(same)
+}
+
+#[cfg(feature = "archive")]
+fn compare_linked(request: &Request) -> Result<bool, String> {
+    Ok(compare(request, &loargwen_host::face::Archive))
+}
+
+#[cfg(not(feature = "archive"))]
+fn compare_linked(_: &Request) -> Result<bool, String> {
+    Err("no archive to compare with: give --served, or build with the feature archive".to_string())
+}
+
 fn main() -> ExitCode {
     let request = match request() {
         Ok(request) => request,
@@ -99,19 +142,16 @@ fn main() -> ExitCode {
             return ExitCode::from(2);
         }
     };
-    let mut figures = Figures::default();
-    let began = Instant::now();
-    let done = run(&request, &mut figures);
-    print!("seed {}\n{figures}", request.seed);
-    match done {
-        Ok(()) => {
-            println!("no difference, {:.1} s", began.elapsed().as_secs_f64());
-            ExitCode::SUCCESS
-        }
-        Err((number, text)) => {
-            let (seed, again) = (request.seed, request.again);
-            println!("difference: {text}  again: compare {seed} 0 --case {number}{again}");
-            ExitCode::FAILURE
+    let compared = match &request.served {
+        Some(command) => compare_served(&request, command),
+        None => compare_linked(&request),
+    };
+    match compared {
+        Ok(true) => ExitCode::SUCCESS,
+        Ok(false) => ExitCode::FAILURE,
+        Err(text) => {
+            eprintln!("{text}");
+            ExitCode::from(2)
         }
     }
 }

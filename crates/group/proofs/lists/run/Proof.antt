@@ -90,8 +90,10 @@ returns-3 : tie.Need-returns-3 Inv-loop μ-loop
 returns-3 c =
     let l = c .before .before .before .before .before .before .before .before .before .before .loop in
     let t = c .before .before .before .step in
-    let steps = c .before .before .before .before .before .before .before .before .before .before .before .before .before .before .before .before .before .args .steps .now in
-    run-stop paper (l .accepted) (l .bank) steps (l .i) (t .result) (t .last .0) (omega arith) (t .ensures) (c .if3 .taken)
+    let steps = c .before .before .before .before .before .before .before .before .before .before .before .before
+    .before .before .before .before .before .args .steps .now in
+    run-stop paper (l .accepted) (l .bank) steps (l .i) (t .result) (t .last .0) (omega arith) (t .ensures)
+    (c .if3 .taken)
     ∙ sym (l .inv .4)
 
 add-accepted : tie.Need-add-accepted Inv-loop μ-loop
@@ -107,13 +109,15 @@ loop-again : tie.Need-loop-again Inv-loop μ-loop
 loop-again c =
     let l = c .before .before .before .before .before .before .before .before .before .before .loop in
     let t = c .before .before .before .step in
-    let steps = c .before .before .before .before .before .before .before .before .before .before .before .before .before .before .before .before .before .args .steps .now in (
+    let steps = c .before .before .before .before .before .before .before .before .before .before .before .before
+    .before .before .before .before .before .args .steps .now in (
       omega arith,
       omega arith,
       omega arith,
       t .kept .0 ∙ l .inv .3,
       l .inv .4
-          ∙ run-more paper (l .accepted) (l .bank) steps (l .i) (t .result) (t .last .0) (omega arith) (t .ensures) (c .if3 .left),
+          ∙ run-more paper (l .accepted) (l .bank) steps (l .i) (t .result) (t .last .0) (omega arith) (t .ensures)
+          (c .if3 .left),
     )
 
 same-length-4 : tie.Need-same-length-4 Inv-loop μ-loop

@@ -11,7 +11,8 @@ use borrow.Author.Needs.{needs}
 use Rattle.group.proofs.logs.log.Statement.{statement}
 use Rattle.group.proofs.logs.log.Tie as tie
 
-free : (c : tie.Else1) → let s = c .before .before .before .before .args in logRefusal paper (now (s .bank)) (s .who) ≡ 0
+free : (c : tie.Else1) → let s = c .before .before .before .before .args in logRefusal paper (now (s .bank))
+    (s .who) ≡ 0
 free c = sym (c .before .before .log-length .ensures .0) ∙ c .if1 .left
 
 log-length-requires : tie.Need-log-length-requires
@@ -59,7 +60,8 @@ part-result-end-2 : tie.Need-part-result-end-2
 part-result-end-2 c =
     let s = c .before .before .before .before .before .args in
     let k = log-asked paper (now (s .bank)) (s .who) (free (c .before)) in
-    let e = c .before .before .before .log-length .ensures .1 ∙ whole-length paper (now (s .bank)) (s .who) (free (c .before)) in
+    let e = c .before .before .before .log-length .ensures .1 ∙ whole-length paper (now (s .bank)) (s .who) (free
+    (c .before)) in
     omega arith
 
 returns-2 : tie.Need-returns-2

@@ -49,7 +49,8 @@ shared-slice-read-t6 c = let f = facts (c .before .before .before) in omega arit
 returns-3 : tie.Need-returns-3
 returns-3 c =
     let s = c .before .before .before .before .before .before .args in
-    let e = log-there paper (now (s .bank)) (s .who) (sound (c .before .before .before)) (lt-ltb _ _ (c .before .if2 .left)) in
+    let e = log-there paper (now (s .bank)) (s .who) (sound (c .before .before .before)) (lt-ltb _ _
+    (c .before .if2 .left)) in
     (sym e, sym (whole-length paper (now (s .bank)) (s .who) e))
 
 pub log-length-spec : {M : Type 1} → statement M

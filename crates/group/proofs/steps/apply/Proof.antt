@@ -19,7 +19,8 @@ abbrev Asks : tie.Start → Step → Type 0
 Asks c s = asked (c .args .kind) (c .args .a) (c .args .b) (c .args .c) ≡ some s
 
 allowed : (c : tie.Start) (s : Step) → Asks c s → Allowed paper (now (c .args .bank)) s
-allowed c s e = allowed-step paper (now (c .args .bank)) (c .args .kind) (c .args .a) (c .args .b) (c .args .c) s (c .pre) e
+allowed c s e = allowed-step paper (now (c .args .bank)) (c .args .kind) (c .args .a) (c .args .b) (c .args .c) s
+    (c .pre) e
 
 done : (c : tie.Start) (s : Step) → Asks c s → {l : List ℕ} → l ≡ after paper (now (c .args .bank)) s
     → l ≡ askedAfter paper (now (c .args .bank)) (asked (c .args .kind) (c .args .a) (c .args .b) (c .args .c))
@@ -37,16 +38,20 @@ asks-unused c t s e =
 
 -- ---- arm by arm
 
-is-broadcast : (c : tie.At-match-keys1) → let s = c .before .before .args in Asks (c .before .before) (broadcast (s .a) (s .b) (s .c))
+is-broadcast : (c : tie.At-match-keys1) → let s = c .before .before .args in Asks (c .before .before) (broadcast
+    (s .a) (s .b) (s .c))
 is-broadcast c = asks (c .before .before) 1 (c .match .keys1)
 
-is-send : (c : tie.At-match-keys2) → let s = c .before .before .args in Asks (c .before .before) (send (s .a) (s .b) (s .c))
+is-send : (c : tie.At-match-keys2) → let s = c .before .before .args in Asks (c .before .before) (send (s .a) (s .b)
+    (s .c))
 is-send c = asks (c .before .before) 2 (c .match .keys2)
 
-is-receive : (c : tie.At-match-keys3) → let s = c .before .before .args in Asks (c .before .before) (receive (s .a) (s .b) (s .c))
+is-receive : (c : tie.At-match-keys3) → let s = c .before .before .args in Asks (c .before .before) (receive (s .a)
+    (s .b) (s .c))
 is-receive c = asks (c .before .before) 3 (c .match .keys3)
 
-is-deliver : (c : tie.At-match-keys4) → let s = c .before .before .args in Asks (c .before .before) (deliver (s .a) (s .b))
+is-deliver : (c : tie.At-match-keys4) → let s = c .before .before .args in Asks (c .before .before) (deliver (s .a)
+    (s .b))
 is-deliver c =
     asks-unused (c .before .before) (eqb (c .before .before .args .c) 0) _
     (asks (c .before .before) 4 (c .match .keys4))
@@ -56,12 +61,14 @@ is-crash c =
     asks-unused (c .before .before) (eqb (c .before .before .args .b) 0 && eqb (c .before .before .args .c) 0) _
     (asks (c .before .before) 5 (c .match .keys5))
 
-is-detect : (c : tie.At-match-keys6) → let s = c .before .before .args in Asks (c .before .before) (detect (s .a) (s .b))
+is-detect : (c : tie.At-match-keys6) → let s = c .before .before .args in Asks (c .before .before) (detect (s .a)
+    (s .b))
 is-detect c =
     asks-unused (c .before .before) (eqb (c .before .before .args .c) 0) _
     (asks (c .before .before) 6 (c .match .keys6))
 
-is-lose : (c : tie.At-match-keys7) → let s = c .before .before .args in Asks (c .before .before) (lose (s .a) (s .b) (s .c))
+is-lose : (c : tie.At-match-keys7) → let s = c .before .before .args in Asks (c .before .before) (lose (s .a) (s .b)
+    (s .c))
 is-lose c = asks (c .before .before) 7 (c .match .keys7)
 
 broadcast-requires : tie.Need-broadcast-requires
@@ -147,7 +154,8 @@ returns-8 c =
     let r = c .match .rest in
     sym
     (ap (askedAfter paper (now (s .bank)))
-    (not-asked (s .kind) (s .a) (s .b) (s .c) (r .0 .0 .0 .0 .0 .0 .1) (r .0 .0 .0 .0 .0 .1) (r .0 .0 .0 .0 .1) (r .0 .0 .0 .1)
+    (not-asked (s .kind) (s .a) (s .b) (s .c) (r .0 .0 .0 .0 .0 .0 .1) (r .0 .0 .0 .0 .0 .1) (r .0 .0 .0 .0 .1)
+    (r .0 .0 .0 .1)
     (r .0 .0 .1) (r .0 .1) (r .1)))
 
 pub apply-spec : {M : Type 1} → statement M

@@ -26,10 +26,12 @@ add-l c = search needs
 mul-delivered : tie.Need-mul-delivered
 mul-delivered c = search needs
 
-below : (c : tie.Start) → (c .args .i < 16) × (c .args .m < 32) × (words paper (now (c .args .bank)) (logLength (c .args .i)) < 32)
+below : (c : tie.Start) → (c .args .i < 16) × (c .args .m < 32) × (words paper (now (c .args .bank)) (logLength
+    (c .args .i)) < 32)
 below c =
     let b = now (c .args .bank) in
-    let k : words paper b (logLength (c .args .i)) < words paper b count = ltb-true _ _ (c .pre .free .1 .1 .1 .1 .1 .1 .0) in (
+    let k : words paper b (logLength (c .args .i)) < words paper b count = ltb-true _ _
+    (c .pre .free .1 .1 .1 .1 .1 .1 .0) in (
       controller-below paper b (c .pre .sound) (c .args .i) (c .pre .free .0),
       message-below paper b (c .pre .sound) (c .args .m) (c .pre .free .1 .0),
       omega (arith, c .pre .sound .given),

@@ -1,0 +1,32 @@
+//! A served process that cannot be started, or fails, is told and never taken for an answer.
+
+use loargwen_host::contest::Calls;
+use loargwen_host::layout;
+use loargwen_host::served::{Served, FAILED};
+
+#[test]
+fn no_process_no_calls() {
+    assert!(Served::start("").is_err());
+    assert!(Served::start("./no-such-program 1 2").is_err());
+}
+
+#[test]
+fn a_process_that_ends_early_is_told() {
+    let served = Served::start("false").expect("a process");
+    let mut bank = vec![0; layout::BYTES];
+    assert_eq!(served.open(&mut bank, 3, 1), FAILED);
+    assert_eq!(served.step(&mut bank, [1, 0, 0, 0]), FAILED);
+    assert_eq!(served.settle(&mut bank, 9).refusal, FAILED);
+    assert_eq!(served.tally(&bank, 0, 0).refusal, FAILED);
+    let text = served.failure().expect("a failure");
+    assert!(text.contains("exit status: 1"), "{text}");
+    assert!(served.finish().is_err());
+}
+
+#[test]
+fn a_process_that_was_not_asked_ends_well() {
+    let served = Served::start("cat").expect("a process");
+    assert_eq!(served.failure(), None);
+    assert_eq!(served.finish(), Ok(()));
+    assert!(Served::start("false").expect("a process").finish().is_err());
+}
