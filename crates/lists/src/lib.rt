@@ -12,7 +12,8 @@ pub struct Step {
 
 // Applies the steps in order up to the first refusal; what was applied before it stays and is counted.
 pub fn run_steps(bank: &mut [u16], steps: &[Step]) -> Ran
-    ensures { λ r. ⌜ StepsPromise (now (bank .entry)) (now (steps .entry)) (r .accepted) (r .refusal) (now (bank .exit)) ⌝ }
+    ensures { λ r. ⌜ StepsPromise (now (bank .entry)) (now (steps .entry)) (r .accepted) (r .refusal)
+        (now (bank .exit)) ⌝ }
 {
     if !group::fit(bank) {
         return Ran {

@@ -1,0 +1,63 @@
+-- A list of records, one record at a time: how the answer from a record on goes over that record's four words.
+use mathlib.Core.Path.{_≡_, refl, sym, ap, _∙_}
+use mathlib.Core.Bool.{true, false}
+use mathlib.Core.List.{List, [], _∷_}
+use Prim.Native.Nat.{ℕ, _+_, _*_, _%_, _≤_, _<_}
+use native.Mathlib.Numerals.{add-one}
+use native.Mathlib.Omega.{arith}
+use lib.ListN.{length, getD, drop, drop-of-length-le}
+use lib.Seq.{drop-cons}
+use Rattle.group.specs.Layout.{Layout}
+use Rattle.group.specs.Fit.{fit}
+use Rattle.group.specs.Opening.{Answer, answer}
+use Rattle.group.specs.Promises.{stepOf}
+use Rattle.group.specs.Lists.{outcome, runFrom, runOf}
+use Rattle.group.proofs.Runs.{run-begins, run-more, run-stop, run-end}
+use Rattle.lists.specs.declared.Step.{Step}
+use Rattle.lists.specs.Records.{flat}
+
+-- four words a record
+pub flat-length : (ss : List Step) → length (flat ss) ≡ 4 * length ss
+unfolding flat
+flat-length [] = refl
+flat-length (s ∷ ss) = omega (arith, flat-length ss)
+
+-- so no word is left over
+pub flat-whole : (ss : List Step) → length (flat ss) % 4 ≡ 0
+flat-whole ss = omega (arith, flat-length ss)
+
+-- the step that a record asks for
+abbrev pub stepBy : Layout → List ℕ → Step → Answer
+stepBy L b s = stepOf L b (s .kind) (s .a) (s .b) (s .c)
+
+-- the records from the i-th on, as words
+next-record : (ss : List Step) (i : ℕ) (d : Step) → i < length ss
+    → flat (drop i ss)
+    ≡ getD ss i d .kind ∷ getD ss i d .a ∷ getD ss i d .b ∷ getD ss i d .c ∷ flat (drop (i + 1) ss)
+unfolding flat
+next-record ss i d h = rw (add-one, drop-cons ss i d)
+
+module _ (L : Layout) (b : List ℕ) (ss : List Step) (i : ℕ) (d : Step) (r : ℕ) (b′ : List ℕ) (h : i < length ss)
+    (p : answer r b′ ≡ stepBy L b (getD ss i d)) where
+  abbrev rest : List ℕ
+  rest = flat (drop (i + 1) ss)
+
+  abbrev here : List ℕ
+  here = getD ss i d .kind ∷ getD ss i d .a ∷ getD ss i d .b ∷ getD ss i d .c ∷ rest
+
+  enough : 0 + 4 ≤ length here
+  enough = omega arith
+
+  pub records-stop : (r ≡ 0 → ⊥) → outcome i r b′ ≡ runFrom L i b (flat (drop i ss))
+  records-stop z = rw (next-record ss i d) (run-stop L i b here 0 r b′ enough p z)
+
+  pub records-more : r ≡ 0 → runFrom L i b (flat (drop i ss)) ≡ runFrom L (i + 1) b′ (flat (drop (i + 1) ss))
+  records-more z = rw (next-record ss i d) (run-more L i b here 0 r b′ enough p z)
+
+module _ (L : Layout) (b : List ℕ) (ss : List Step) where
+  pub records-end : (i : ℕ) → length ss ≤ i → runFrom L i b (flat (drop i ss)) ≡ outcome i 0 b
+  unfolding flat runFrom
+  records-end i h = rw drop-of-length-le
+
+  pub records-begin : fit L b ≡ true → runOf L b (flat ss) ≡ runFrom L 0 b (flat (drop 0 ss))
+  records-begin f = run-begins L b (flat ss) f (flat-whole ss)

@@ -1,0 +1,33 @@
+-- A list of records answers as its words do in the flat form, leaves no room for another answer, and is never ragged.
+use mathlib.Core.Path.{_≡_, refl, ap}
+use mathlib.Core.Bool.{Bool, true, false}
+use mathlib.Core.List.{List}
+use Prim.Native.Nat.{ℕ, _≤_}
+use native.Mathlib.Omega.{arith}
+use Rattle.group.specs.Layout.{paper}
+use Rattle.group.specs.Fit.{fit}
+use Rattle.group.specs.Lists.{outcome, runFrom, runOf, RunPromise}
+use Rattle.group.proofs.Determined.{run-determined}
+use Rattle.group.proofs.Runs.{run-unfit}
+use Rattle.lists.specs.declared.Step.{Step}
+use Rattle.lists.specs.Records.{flat, StepsPromise}
+use Rattle.lists.proofs.Runs.{records-begin}
+use Rattle.lists.proofs.Refused.{run-small}
+
+-- on the same steps both forms give the same number of accepted steps, the same refusal and the same bank
+pub same-as-flat : (b : List ℕ) (ss : List Step) {n k r s : ℕ} {c d : List ℕ} → StepsPromise b ss n r c
+    → RunPromise b (flat ss) k s d → (n ≡ k) × (r ≡ s) × (c ≡ d)
+same-as-flat b ss e f = run-determined b (flat ss) e f
+
+pub steps-determined : (b : List ℕ) (ss : List Step) {n k r s : ℕ} {c d : List ℕ} → StepsPromise b ss n r c
+    → StepsPromise b ss k s d → (n ≡ k) × (r ≡ s) × (c ≡ d)
+steps-determined b ss e f = run-determined b (flat ss) e f
+
+-- 13 does not arise: a record is whole, and no step is refused by that number
+pub never-ragged : (b : List ℕ) (ss : List Step) {n r : ℕ} {c : List ℕ} → StepsPromise b ss n r c → r ≡ 13 → ⊥
+never-ragged b ss {r = r} e q =
+    omega (arith, ap (λ o. o .refusal) e, small (fit paper b) refl)
+  where
+    small : (t : Bool) → fit paper b ≡ t → runOf paper b (flat ss) .refusal ≤ 10
+    small true f = rw (records-begin paper b ss f) (run-small paper 0 b (flat ss))
+    small false f = rw (run-unfit paper b (flat ss) f) (omega arith)
