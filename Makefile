@@ -1,9 +1,34 @@
-# The two commands of README.md and what else a person types.
-.PHONY: test format
+# What a person types; README.md starts with the first two.
+PREFIX ?= /usr/local
+SEED ?= 1
+MINUTES ?= 10
+.PHONY: bench test soak benchmark install format
+
+# proves and builds the bench, then runs the worked example
+bench:
+	rt check bench
+	bin/run-hex examples/half-the-copies.hex
 
 # every proof from nothing, then the C and Rust tests
 test:
 	bash .ci/run
+
+# compares the archive and the bench with the second implementation on random inputs, for MINUTES
+soak:
+	bash tests/rust/soak $(SEED) $(MINUTES)
+
+# ratios of the archive's times to the plain version's
+benchmark:
+	bash tests/rust/benchmark
+
+install:
+	rt check bench
+	rt staticlib loargwen
+	install -D -m 755 target/bin/bench $(DESTDIR)$(PREFIX)/bin/loargwen-bench
+	install -D -m 644 include/loargwen.h $(DESTDIR)$(PREFIX)/include/loargwen.h
+	install -D -m 644 target/staticlib/libloargwen.a $(DESTDIR)$(PREFIX)/lib/libloargwen.a
+	install -d $(DESTDIR)$(PREFIX)/lib/pkgconfig
+	sed 's|@PREFIX@|$(PREFIX)|' loargwen.pc.in >$(DESTDIR)$(PREFIX)/lib/pkgconfig/loargwen.pc
 
 format:
 	rt fmt

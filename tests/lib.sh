@@ -14,7 +14,7 @@ have() { # have PROGRAM..: whether all of them are installed
 }
 
 install_packages() { # install_packages PACKAGE..
-    apt-get update -q && DEBIAN_FRONTEND=noninteractive apt-get install -qy --no-install-recommends "$@"
+    { apt-get update -q && DEBIAN_FRONTEND=noninteractive apt-get install -qy --no-install-recommends "$@"; } >&2
 }
 
 choose_tools() { # sets compile, the words of the compiler, and emulate, those before a program that it made
@@ -26,7 +26,7 @@ choose_tools() { # sets compile, the words of the compiler, and emulate, those b
         have x86_64-linux-gnu-gcc qemu-x86_64-static ||
             install_packages gcc-x86-64-linux-gnu libc6-dev-amd64-cross qemu-user-static
         compile=(x86_64-linux-gnu-gcc -static)
-        emulate=(qemu-x86_64-static)
+        emulate=(qemu-x86_64-static -L /usr/x86_64-linux-gnu)
     fi
 }
 

@@ -10,7 +10,7 @@ use Rattle.group.specs.Layout.{paper, size}
 use Rattle.group.specs.Opening.{openOf}
 use Rattle.group.specs.Promises.{stepOf}
 use Rattle.settler.specs.Settling.{settleOf}
-use Rattle.file.specs.Records.{Found, end, bad, got, wordAt, settle, findAt, begun}
+use Rattle.file.specs.Records.{Found, end, bad, got, wordAt, settleKind, findAt, begun}
 use Rattle.report.specs.Lines.{bankLines, endLine}
 
 -- the steps applied so far, the refusal or 0, and the bank
@@ -25,7 +25,7 @@ state k r b = record { steps = k; refusal = r; bank = b }
 -- one record: a settle, or a step of the four numbers
 unfoldable pub applied : ℕ → List ℕ → ℕ → ℕ → ℕ → ℕ → State
 applied k b kind x y z =
-    cond (eqb kind settle)
+    cond (eqb kind settleKind)
     (state (k + settleOf paper b x .steps) (settleOf paper b x .refusal) (settleOf paper b x .bank))
     (state (k + cond (eqb (stepOf paper b kind x y z .refusal) 0) 1 0) (stepOf paper b kind x y z .refusal)
     (stepOf paper b kind x y z .bank))

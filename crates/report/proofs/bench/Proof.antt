@@ -1,0 +1,123 @@
+-- bench: the tests part the three reports; what is printed is the report, and the bank behind it is fit.
+use mathlib.Core.Path.{_≡_, sym, ap₂, _∙_}
+use mathlib.Core.Bool.{true}
+use native.Mathlib.Omega.{arith}
+use borrow.Author.Tests.{not-true, not-false}
+use Rattle.group.specs.Layout.{paper}
+use Rattle.group.specs.Opening.{answer, openOf}
+use Rattle.file.specs.Records.{wordAt, begun}
+use Rattle.file.proofs.Finding.{begun-length}
+use Rattle.report.specs.Bench.{blankBank}
+use Rattle.report.proofs.Printing.{_then_}
+use Rattle.report.proofs.Reporting.{reports-unbegun, reports-refused, reports-played, fit-reported, promised}
+use borrow.Author.Needs.{needs}
+use Rattle.report.proofs.bench.Statement.{statement}
+use Rattle.report.proofs.bench.Tie as tie
+
+is-begun : (c : tie.Else1) → begun (c .before .before .before .before .args .input .now) ≡ true
+is-begun c = sym (c .before .begun .ensures) ∙ not-false _ (c .if1 .left)
+
+opens : (c : tie.After-open) → let s = c .before .before .before .before .before .before .before .before .args .input .now in
+    answer (c .«open» .result) (c .«open» .last .0) ≡ openOf paper blankBank (wordAt s 4) (wordAt s 6)
+opens c =
+    c .«open» .ensures
+    ∙ ap₂ (openOf paper blankBank) (c .before .before .word-at .ensures) (c .before .word-at2 .ensures)
+
+begun-requires : tie.Need-begun-requires
+begun-requires c κs = search needs
+
+end-line-requires : tie.Need-end-line-requires
+end-line-requires c κs = search needs
+
+same-length : tie.Need-same-length
+same-length c = search needs
+
+returns : tie.Need-returns
+returns c =
+    let l = c .before .before in
+    let t = l .before .before in
+    let e = sym (t .before .begun .ensures) ∙ not-true _ (t .if1 .taken) in
+    (promised _ (l .end-line .ensures) (reports-unbegun _ e), omega arith)
+
+slice-aggregate-open : tie.Need-slice-aggregate-open
+slice-aggregate-open c = search needs
+
+word-at-requires : tie.Need-word-at-requires
+word-at-requires c κs = search needs
+
+word-at-requires-2 : tie.Need-word-at-requires-2
+word-at-requires-2 c κs = search needs
+
+open-requires : tie.Need-open-requires
+open-requires c κs = search needs
+
+end-line-requires-2 : tie.Need-end-line-requires-2
+end-line-requires-2 c κs = search needs
+
+same-length-2 : tie.Need-same-length-2
+same-length-2 c = search needs
+
+returns-2 : tie.Need-returns-2
+returns-2 c =
+    let l = c .before .before in
+    let t = l .before .before in
+    let o = t .before .before in
+    let e = is-begun (o .before .before .before .before) in
+    (promised _ (l .end-line2 .ensures) (reports-refused _ e (opens o) (t .if2 .taken)), omega arith)
+
+slice-aggregate-play : tie.Need-slice-aggregate-play
+slice-aggregate-play c = search needs
+
+play-requires : tie.Need-play-requires
+play-requires c κs = begun-length _ (is-begun (c .before .before .before .before .before .before .before))
+
+slice-aggregate-bank-lines : tie.Need-slice-aggregate-bank-lines
+slice-aggregate-bank-lines c = search needs
+
+bank-lines-requires : tie.Need-bank-lines-requires
+bank-lines-requires c κs =
+    let p = c .before .before .before in
+    let t = p .before .before in
+    let o = t .before .before in
+    let e = is-begun (o .before .before .before .before) in
+    (omega arith, fit-reported _ e (opens o) (t .if2 .left) (p .play .ensures))
+
+end-line-requires-3 : tie.Need-end-line-requires-3
+end-line-requires-3 c κs = search needs
+
+same-length-3 : tie.Need-same-length-3
+same-length-3 c = search needs
+
+returns-3 : tie.Need-returns-3
+returns-3 c =
+    let l = c .before .before in
+    let b = l .before .before .before .before in
+    let p = b .before .before .before .before in
+    let t = p .before .before in
+    let o = t .before .before in
+    let e = is-begun (o .before .before .before .before) in
+    let both = b .bank-lines .ensures then l .end-line3 .ensures in
+    (promised _ both (reports-played _ e (opens o) (t .if2 .left) (p .play .ensures)), omega arith)
+
+pub bench-spec : {M : Type 1} → statement M
+bench-spec =
+    tie.close
+    (tie.spec
+    begun-requires
+    end-line-requires
+    same-length
+    returns
+    slice-aggregate-open
+    word-at-requires
+    word-at-requires-2
+    open-requires
+    end-line-requires-2
+    same-length-2
+    returns-2
+    slice-aggregate-play
+    play-requires
+    slice-aggregate-bank-lines
+    bank-lines-requires
+    end-line-requires-3
+    same-length-3
+    returns-3)

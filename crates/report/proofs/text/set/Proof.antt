@@ -1,0 +1,22 @@
+-- set: the name, and the digits after it.
+use Rattle.report.proofs.Printing.{_then_}
+use borrow.Author.Needs.{needs}
+use Rattle.report.proofs.text.set.Statement.{statement}
+use Rattle.report.proofs.text.set.Tie as tie
+
+put-all-requires : tie.Need-put-all-requires
+put-all-requires c κs = search needs
+
+hex-requires : tie.Need-hex-requires
+hex-requires c κs = search needs
+
+same-length : tie.Need-same-length
+same-length c = search needs
+
+returns : tie.Need-returns
+returns c =
+    let d = c .before .before in
+    d .before .before .before .before .put-all .ensures then d .hex .ensures
+
+pub set-spec : {M : Type 1} → statement M
+set-spec = tie.close (tie.spec put-all-requires hex-requires same-length returns)
