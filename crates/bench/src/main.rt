@@ -1,4 +1,4 @@
-// The bench: a file on standard input, its report on standard output. What the report says is report::bench's to promise.
+// The bench: a file on standard input, its report on standard output. What the report says, report::bench promises.
 use libc::STDIN_FILENO;
 use libc::STDOUT_FILENO;
 

@@ -22,8 +22,8 @@ lengthOf kind =
     (cond (eqb kind 4 || eqb kind 6 || eqb kind openKind) 6
     (cond (eqb kind 5 || eqb kind settleKind) 4 0))
 
--- what stands at place i of a file: the end; a refusal; or a record with its kind, its numbers (0 where it has none) and
--- the place after it
+-- what stands at place i of a file: the end; a refusal; or a record with its kind, its numbers (0 where it has none)
+-- and the place after it
 pub data Found : Type 0 where
   end : Found
   bad : ℕ → Found

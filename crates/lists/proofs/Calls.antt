@@ -151,7 +151,7 @@ module _ {M : Type 1} (𝓤 : URA M) (H : Heap 𝓤) (A : Atoms 𝓤) (mem : Mem
           check ! (record { value = ap only (is .0); fits = is .1; as-long = l; promise = e }) $
           keep ! (0 ∷ 3 ∷ []) $ done !)))))
 
--- ---- the calls as rules of a walk: the bank and its token stand first, and the operands are read whatever stands there
+-- ---- the calls as rules of a walk: the bank and its token stand first, and the operands are read wherever they stand
 module _ {M : Type 1} {𝓤 : URA M} {H : Heap 𝓤} {A : Atoms 𝓤} {K : Type 0} {W : Given 𝓤 H A} {Γ : List (Item 𝓤)}
     {E : Env 𝓤 H} {C : Calls 𝓤 H} {Λ : Loops 𝓤 H} {p : Post 𝓤 H} {κ : Lft} {q : Share} {v : Val} {xs : List Operand}
     {d : Place} {rest : Body} where

@@ -1,4 +1,4 @@
--- A `&mut` slice is lent on for the time of one call and comes back: as `&mut` with the callee's words, as `&` unchanged.
+-- A `&mut` slice is lent on for the time of one call and comes back: as `&mut` with the callee's words, as `&` as it was.
 use mathlib.Core.Path.{_≡_, refl, sym, ap, subst, _∙_}
 use mathlib.Core.List.{List, [], _∷_}
 use Prim.Native.Nat.{ℕ}

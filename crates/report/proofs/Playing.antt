@@ -32,7 +32,8 @@ module _ (k : ℕ) (b : List ℕ) (kind x y z : ℕ) where
     applies-step : state (k + cond (eqb r 0) 1 0) r c ≡ applied k b kind x y z
     unfolding applied
     applies-step =
-        ap (λ a. state (k + cond (eqb (a .refusal) 0) 1 0) (a .refusal) (a .bank)) p ∙ sym (stop _ (ne-eqb _ _ other) refl)
+        ap (λ a. state (k + cond (eqb (a .refusal) 0) 1 0) (a .refusal) (a .bank)) p
+        ∙ sym (stop _ (ne-eqb _ _ other) refl)
 
     pub applies-accepted : r ≡ 0 → state (k + 1) 0 c ≡ applied k b kind x y z
     applies-accepted e = rw e at applies-step

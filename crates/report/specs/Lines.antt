@@ -84,7 +84,8 @@ module _ (b : List ℕ) where
   abbrev pub messageSets : ℕ → List ℕ
   messageSets m =
       sayHeld
-      ++ (hex (words paper b (message m held)) ++ (sayDelivered ++ (hex (words paper b (message m delivered)) ++ newline)))
+      ++ (hex (words paper b (message m held))
+      ++ (sayDelivered ++ (hex (words paper b (message m delivered)) ++ newline)))
 
   abbrev pub messageLine : ℕ → List ℕ
   messageLine m = messageHead m ++ messageSets m

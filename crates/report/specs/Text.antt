@@ -26,8 +26,8 @@ hex w = hexDigit (w / 4096 % 16) ∷ hexDigit (w / 256 % 16) ∷ hexDigit (w / 1
 abbrev pub Room : ℕ → ℕ → Type 0
 Room most at = at + most ≤ 65536
 
--- a text of at most so many bytes stands in a buffer from a place on, as far as the buffer reaches (a store past its end
--- changes nothing); the place after the text is answered
+-- a text of at most so many bytes stands in a buffer from a place on, as far as the buffer reaches (past its end nothing
+-- is stored); the place after the text is answered
 pub record Prints (most : ℕ) (out : List ℕ) (at : ℕ) (text : List ℕ) (r : ℕ) (out′ : List ℕ) : Type 0 where
   pub ends : r ≡ at + length text
   pub leaves : out′ ≡ sets out at text

@@ -1,5 +1,5 @@
-// The lines that the bench prints of a bank, which they only read. Each function prints from a place of a lent buffer on,
-// as far as the buffer reaches, and answers the place after what it printed.
+// The lines that the bench prints of a bank, which they only read. Each function prints from a place of a lent buffer
+// on, as far as the buffer reaches, and answers the place after what it printed.
 ghost use Prim.Native.Nat.{_≤_, _<_};
 ghost use lib.ListN.{length};
 ghost use Rattle.group.specs.Place;
@@ -7,7 +7,8 @@ ghost use Rattle.group.specs.Layout.{paper, words, upFrom};
 ghost use Rattle.group.specs.Fit.{Fit};
 ghost use Rattle.report.specs.Text.{Room, Prints};
 ghost use Rattle.report.specs.Lines;
-ghost use Rattle.report.specs.Lines.{groupLine, messageHead, messageSets, messageLine, upOrDown, controllerLine, bankLines, endLine};
+ghost use Rattle.report.specs.Lines.{groupLine, messageHead, messageSets, messageLine};
+ghost use Rattle.report.specs.Lines.{upOrDown, controllerLine, bankLines, endLine};
 use crate::text::decimal;
 use crate::text::number;
 use crate::text::put;

@@ -22,7 +22,8 @@ pub(crate) fn put(out: &mut [u8], at: usize, b: u8) -> usize
 // All bytes of a text.
 pub(crate) fn put_all(out: &mut [u8], at: usize, text: &[u8]) -> usize
     requires { ⌜ Room (length (now text)) at ⌝ }
-    ensures { λ r. ⌜ Prints (length (now (text .entry))) (now (out .entry)) at (now (text .entry)) r (now (out .exit)) ⌝ }
+    ensures { λ r. ⌜ Prints (length (now (text .entry))) (now (out .entry)) at (now (text .entry)) r
+        (now (out .exit)) ⌝ }
 {
     let mut i = 0;
     while i < text.len() {

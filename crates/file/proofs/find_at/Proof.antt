@@ -3,7 +3,8 @@ use mathlib.Core.Path.{_≡_, sym, _∙_}
 use mathlib.Core.Bool.{true}
 use borrow.Author.Tests.{not-true, not-false}
 use Rattle.file.specs.Records.{wellCut}
-use Rattle.file.proofs.Finding.{finds-end, finds-cut, finds-unknown, finds-open, finds-another-length, finds-record}
+use Rattle.file.proofs.Finding.{finds-end, finds-cut, finds-unknown, finds-open}
+use Rattle.file.proofs.Finding.{finds-another-length, finds-record}
 use borrow.Author.Needs.{needs}
 use Rattle.file.proofs.find_at.Statement.{statement}
 use Rattle.file.proofs.find_at.Tie as tie

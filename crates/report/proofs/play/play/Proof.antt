@@ -25,7 +25,8 @@ abbrev μ-loop : tie.MeasureT-loop
 
 found : (c : tie.After-found2 Inv-loop μ-loop) → let f = c .before .before in
     let r = c .found2 .given .0 .0 in
-    got (r .kind) (r .a) (r .b) (r .c) (r .next) ≡ findAt (f .before .before .before .before .args .s .now) (f .before .loop .i)
+    got (r .kind) (r .a) (r .b) (r .c) (r .next)
+    ≡ findAt (f .before .before .before .before .args .s .now) (f .before .loop .i)
 found c = ap said (sym (c .found2 .given .1)) ∙ c .before .before .find-at .ensures
 
 onward : (c : tie.After-found2 Inv-loop μ-loop) → let f = c .before .before in
@@ -49,7 +50,8 @@ returns : tie.Need-returns Inv-loop μ-loop
 returns c =
     let f = c .before .before in
     let l = f .before .loop in
-    plays-end _ (l .i) (l .steps) (l .bank) (ap said (sym (c .enum-told .given .1)) ∙ f .find-at .ensures) ∙ sym (l .inv .3)
+    plays-end _ (l .i) (l .steps) (l .bank) (ap said (sym (c .enum-told .given .1)) ∙ f .find-at .ensures)
+    ∙ sym (l .inv .3)
 
 enum-known-found : tie.Need-enum-known-found Inv-loop μ-loop
 enum-known-found c = search needs
@@ -62,7 +64,8 @@ returns-2 c =
     let k = c .before in
     let f = k .before .before in
     let l = f .before .loop in
-    plays-bad _ (l .i) (l .steps) (l .bank) _ (ap said (sym (k .found .given .1)) ∙ f .find-at .ensures) ∙ sym (l .inv .3)
+    plays-bad _ (l .i) (l .steps) (l .bank) _ (ap said (sym (k .found .given .1)) ∙ f .find-at .ensures)
+    ∙ sym (l .inv .3)
 
 enum-known-found-2 : tie.Need-enum-known-found-2 Inv-loop μ-loop
 enum-known-found-2 c = search needs
@@ -80,7 +83,8 @@ returns-3 c =
     let t = c .before .before .before .before in
     let g = t .before .before .before in
     let l = g .before .before .before .loop in
-    plays-refused _ (l .i) (l .steps) (l .bank) _ _ _ _ _ (found g) (t .apply .ensures .0) (c .if1 .taken) ∙ sym (l .inv .3)
+    plays-refused _ (l .i) (l .steps) (l .bank) _ _ _ _ _ (found g) (t .apply .ensures .0) (c .if1 .taken)
+    ∙ sym (l .inv .3)
 
 loop-less : tie.Need-loop-less Inv-loop μ-loop
 loop-less c =
