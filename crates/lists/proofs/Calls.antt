@@ -17,9 +17,9 @@ use ghost.Atoms.{Atoms, sem}
 use contract.Monad.{Fun, fact}
 use sound.Laws.{∗emp}
 use sound.WpLaws.{FmC}
-use types.Kit.{Given, Item, Goal, Seq, Step as Rule, Post, runs, lands, mean, ‵, raw, _⊛_, some, given, later, _$_, _∵_, ! }
-use types.Kit.{qed, move, keep, use1, use2, split, join, pick, learn, fsplit, fjoin, feqL, frame, await, updating}
-use types.Kit.{now as at-once, show, check, done}
+use types.Kit.{Given, Item, Goal, Seq, Step as Rule, Post, runs, lands, mean, ‵, raw, _⊛_, some, given, later}
+use types.Kit.{_$_, _∵_, !, qed, move, keep, use1, use2, split, join, pick, learn, fsplit, fjoin, feqL, frame}
+use types.Kit.{await, updating, now as at-once, show, check, done}
 use types.Run.{Opds}
 use denote.Laws.{Is, shows}
 use denote.Plain.{uint-makes}
@@ -151,10 +151,10 @@ module _ {M : Type 1} (𝓤 : URA M) (H : Heap 𝓤) (A : Atoms 𝓤) (mem : Mem
           check ! (record { value = ap only (is .0); fits = is .1; as-long = l; promise = e }) $
           keep ! (0 ∷ 3 ∷ []) $ done !)))))
 
--- ---- the calls as rules of a walk: the bank and its token stand first, and the operands are read wherever they stand
+-- the calls as rules of a walk: the bank and its token stand first, and the operands are read whatever stands there
 module _ {M : Type 1} {𝓤 : URA M} {H : Heap 𝓤} {A : Atoms 𝓤} {K : Type 0} {W : Given 𝓤 H A} {Γ : List (Item 𝓤)}
-    {E : Env 𝓤 H} {C : Calls 𝓤 H} {Λ : Loops 𝓤 H} {p : Post 𝓤 H} {κ : Lft} {q : Share} {v : Val} {xs : List Operand}
-    {d : Place} {rest : Body} where
+    {E : Env 𝓤 H} {C : Calls 𝓤 H} {Λ : Loops 𝓤 H} {p : Post 𝓤 H} {κ : Lft} {q : Share} {v : Val}
+    {xs : List Operand} {d : Place} {rest : Body} where
   module _ (t : K) (fm : FmC 𝓤 H (W .laws) C) (mem : Memory → SProp 𝓤) (run : Routine → Fun 𝓤) where
     pub asks-fit : Triple 𝓤 (C fit-def.name) (Fits 𝓤 H A mem run) → (x : RefT (List ℕ))
         → ((i j : Item 𝓤) → Opds K W (i ∷ j ∷ Γ) E xs (v ∷ []))

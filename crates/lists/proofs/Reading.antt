@@ -44,7 +44,8 @@ module _ {M : Type 1} {𝓤 : URA M} {H : Heap 𝓤} {A : Atoms 𝓤} {K : Type 
     {rest : Body} where
   -- local k, at n, points to record e of y, and local l, at m, is given the record
   pub copies-record : (t : K) (y : RefT (List Step)) (e : ℕ) → e < length (y .now) → (n m : ℕ) {k l : ℕ} {u : Share}
-      → nth 𝓤 H A n Γ ≡ ‵ (fat u (spotOf 𝓤 H E k .0) (spotOf 𝓤 H E k .1) zero (vptr (y .ptr .0) (placed 8 (y .ptr .1) e)))
+      → nth 𝓤 H A n Γ
+      ≡ ‵ (fat u (spotOf 𝓤 H E k .0) (spotOf 𝓤 H E k .1) zero (vptr (y .ptr .0) (placed 8 (y .ptr .1) e)))
       → nth 𝓤 H A m Γ ≡ Vacant H E l → spotOf 𝓤 H E l .0 ≡ S′.mir
       → (Read (recordAt (y .now) e) → Seq K W (i ∷ j ∷ ‵ (Shr S.the-row κ y vs) ∷ ‵ (flft κ q)
       ∷ put 𝓤 H A m (Filled H E l (S′.lowered (recordAt (y .now) e))) Γ) (runs C Λ E rest p))

@@ -1,5 +1,4 @@
 -- No list of steps is refused by a number above 10: the numbers 11 to 13 belong to opening and to ragged words.
-use mathlib.Core.Path.{_≡_, refl}
 use mathlib.Core.Bool.{Bool, true, false, cond}
 use mathlib.Core.List.{List, [], _∷_}
 use mathlib.Core.Option.{Option, none, some}

@@ -1,6 +1,6 @@
 -- A list of records, one record at a time: how the answer from a record on goes over that record's four words.
-use mathlib.Core.Path.{_≡_, refl, sym, ap, _∙_}
-use mathlib.Core.Bool.{true, false}
+use mathlib.Core.Path.{_≡_, refl}
+use mathlib.Core.Bool.{true}
 use mathlib.Core.List.{List, [], _∷_}
 use Prim.Native.Nat.{ℕ, _+_, _*_, _%_, _≤_, _<_}
 use native.Mathlib.Numerals.{add-one}
@@ -12,7 +12,7 @@ use Rattle.group.specs.Fit.{fit}
 use Rattle.group.specs.Opening.{Answer, answer}
 use Rattle.group.specs.Promises.{stepOf}
 use Rattle.group.specs.Lists.{outcome, runFrom, runOf}
-use Rattle.group.proofs.Runs.{run-begins, run-more, run-stop, run-end}
+use Rattle.group.proofs.Runs.{run-begins, run-more, run-stop}
 use Rattle.lists.specs.declared.Step.{Step}
 use Rattle.lists.specs.Records.{flat}
 

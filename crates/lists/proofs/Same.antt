@@ -6,7 +6,7 @@ use Prim.Native.Nat.{ℕ, _≤_}
 use native.Mathlib.Omega.{arith}
 use Rattle.group.specs.Layout.{paper}
 use Rattle.group.specs.Fit.{fit}
-use Rattle.group.specs.Lists.{outcome, runFrom, runOf, RunPromise}
+use Rattle.group.specs.Lists.{runOf, RunPromise}
 use Rattle.group.proofs.Determined.{run-determined}
 use Rattle.group.proofs.Runs.{run-unfit}
 use Rattle.lists.specs.declared.Step.{Step}

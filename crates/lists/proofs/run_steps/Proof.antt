@@ -2,7 +2,7 @@
 use mathlib.Core.Path.{_≡_, refl, sym, ap, _∙_}
 use mathlib.Core.Logic.{_⊎_, inl, inr, ⊎-elim}
 use mathlib.Core.Bool.{Bool, true, false, not}
-use mathlib.Core.List.{List, [], _∷_}
+use mathlib.Core.List.{[], _∷_}
 use Prim.Native.Nat.{zero-le}
 use lib.ListN.{length}
 use lib.Dec.{lit<}
@@ -49,7 +49,8 @@ use Rattle.lists.proofs.run_steps as run-steps
 use Rattle.lists.proofs.run_steps.Key.{name as #lists·run-steps}
 use Rattle.lists.proofs.run_steps.Statement.{statement}
 use Rattle.lists.proofs.run_steps.Code as code
-use Rattle.lists.proofs.run_steps.Proof.Frame.{stayed, Call, bankValue, stepsValue, En, Lent, Entry, Post, exits}
+use Rattle.lists.proofs.run_steps.Proof.Frame.{stayed, Call, bankValue, stepsValue, En, Lent, AtEntry}
+use Rattle.lists.proofs.run_steps.Proof.Frame.{Post, exits}
 use Rattle.lists.proofs.run_steps.Proof.Turn.{State, Less, less-wf, Inv, turn}
 mod Frame
 mod Turn
@@ -72,10 +73,10 @@ module _ {M : Type 1} (𝓤 : URA M) (H : Heap 𝓤) (A : Atoms 𝓤) (W : Given
     }
 
     -- the bank is asked whether it is fit, and the loop begins where it is
-    begins : (bs : Blocks code.Mir.locals) → ent 𝓤 (⋆ 𝓤 H A (Entry c bs))
+    begins : (bs : Blocks code.Mir.locals) → ent 𝓤 (⋆ 𝓤 H A (AtEntry c bs))
         (Wp 𝓤 H (𝓣 .C) (𝓣 .Λ) (En bs) code.Mir.t-1 (atReturn 𝓤 H (En bs) (Post 𝓤 H A mem run c)))
     begins bs =
-        qed W (Entry c bs) ∵ exec ! (𝓣 .C) (𝓣 .Λ) (En bs) code.Mir.t-1 (atRet (En bs) (Post 𝓤 H A mem run c)) $
+        qed W (AtEntry c bs) ∵ exec ! (𝓣 .C) (𝓣 .Λ) (En bs) code.Mir.t-1 (atRet (En bs) (Post 𝓤 H A mem run c)) $
         fills ! (slot 4 7) refl
         (addr ! (from ! (fld ! refl (hop ! (look-in ! (slot 4 1) (sub ! 0 refl (whole !))) (stop !))))) (tt, tt) $
         fills ! (slot 4 8) refl

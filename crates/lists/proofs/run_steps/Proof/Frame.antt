@@ -54,7 +54,8 @@ pub record Call : Type 0 where
 abbrev pub ran : ℕ → ℕ → Ran
 ran n r = record { accepted = n; refusal = r }
 
--- the locals' types and blocks
+-- the locals' types and blocks: 0 is the answer, 1 the bank, 2 the records, 3 `i`, 4 `s` and 5 `r`; 6 to 9 serve the
+-- question whether the bank is fit, and 10 to 15 a turn
 abbrev pub En : Blocks code.Mir.locals → List (Ty × ℕ)
 En bs = laid code.Mir.locals bs
 
@@ -76,11 +77,11 @@ module _ {M : Type 1} {𝓤 : URA M} (c : Call) where
       ∷ []
 
   -- all that is had where the function begins, and at the head of the loop, where i records are applied
-  abbrev pub Entry : Blocks code.Mir.locals → List (Item 𝓤)
-  Entry bs = Lent (c .bank .now) ++ cells (En bs) (none ∷ some (bankValue c) ∷ some (stepsValue c) ∷ [])
+  abbrev pub AtEntry : Blocks code.Mir.locals → List (Item 𝓤)
+  AtEntry bs = Lent (c .bank .now) ++ cells (En bs) (none ∷ some (bankValue c) ∷ some (stepsValue c) ∷ [])
 
-  abbrev pub Ctx : Blocks code.Mir.locals → ℕ → List ℕ → List (Item 𝓤)
-  Ctx bs i l = Lent l ++ cells (En bs) (none ∷ some (bankValue c) ∷ some (stepsValue c) ∷ some (vint w64 i) ∷ [])
+  abbrev pub AtHead : Blocks code.Mir.locals → ℕ → List ℕ → List (Item 𝓤)
+  AtHead bs i l = Lent l ++ cells (En bs) (none ∷ some (bankValue c) ∷ some (stepsValue c) ∷ some (vint w64 i) ∷ [])
 
 module _ {M : Type 1} (𝓤 : URA M) (H : Heap 𝓤) (A : Atoms 𝓤) (mem : Memory → SProp 𝓤) (run : Routine → Fun 𝓤)
     (c : Call) where

@@ -3,7 +3,7 @@ use mathlib.Core.Path.{_≡_, refl, sym, ap, _∙_}
 use mathlib.Core.Logic.{_⊎_, inl, inr, ⊎-elim}
 use mathlib.Core.Bool.{not}
 use mathlib.Core.WellFounded.{WellFounded, InvImage·wf}
-use mathlib.Core.List.{List, [], _∷_}
+use mathlib.Core.List.{List}
 use Prim.Native.Nat.{ℕ, zero, suc, _+_, _-_, _*_, _<_, _≤_, _^_}
 use native.Mathlib.Nat.{eq-or-lt-of-le, le-of-eq}
 use native.Mathlib.Omega.{arith}
@@ -43,7 +43,7 @@ use Rattle.lists.proofs.Calls.{Steps, asks-step}
 use Rattle.lists.proofs.Reading.{recordAt, record-typed, copies-record}
 use Rattle.lists.proofs.Step as S
 use Rattle.lists.proofs.run_steps.Code as code
-use Rattle.lists.proofs.run_steps.Proof.Frame.{Call, Lent, Post, exits, En, Ctx}
+use Rattle.lists.proofs.run_steps.Proof.Frame.{Call, Lent, Post, exits, En, AtHead}
 
 -- what the loop knows: i records are applied, the bank's words are l, and the rest answers as the whole list does
 pub record State (b : List ℕ) (ss : List Step) : Type 0 where
@@ -93,7 +93,7 @@ module _ {M : Type 1} (𝓤 : URA M) (H : Heap 𝓤) (A : Atoms 𝓤) (W : Given
   Here = State (c .bank .now) (c .steps .now)
 
   abbrev pub Inv : Here → List (Item 𝓤)
-  Inv s = Ctx c bs (s .i) (s .l)
+  Inv s = AtHead c bs (s .i) (s .l)
 
   -- what is owed at a return, where the loop is left, and after a turn from s
   abbrev Returned : Out → SProp 𝓤

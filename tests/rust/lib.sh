@@ -1,0 +1,35 @@
+# What the comparisons with the second implementation share. Sourced, at the top of the repository, after tests/lib.sh,
+# with seed set.
+
+export CARGO_TARGET_DIR=$PWD/target/cargo
+
+cargo_host() { # cargo_host COMMAND FLAG..: in host/rust
+    local command=$1
+    shift
+    cargo "$command" --manifest-path host/rust/Cargo.toml --release --offline --locked -j2 "$@"
+}
+
+build_compare() { # sets reach, the flags by which compare reaches the archive
+    if native; then
+        LOARGWEN_LIB=$PWD/target/staticlib cargo_host build --features archive --bin compare
+        reach=()
+    else
+        cargo_host build --bin compare
+        build_server
+        reach=(--served "${emulate[*]} $built/server")
+    fi
+}
+
+compare() { # compare STEPS FLAG..
+    local steps=$1
+    shift
+    "$CARGO_TARGET_DIR/release/compare" "$seed" "$steps" "${reach[@]}" "$@"
+}
+
+build_files() {
+    cargo_host build --bin files
+}
+
+compare_files() { # compare_files COUNT: the bench on random and damaged files
+    "$CARGO_TARGET_DIR/release/files" bin/bench "$seed" "$1"
+}
