@@ -34,11 +34,11 @@ build_archive() {
     rt staticlib loargwen
 }
 
-link_c() { # link_c SOURCE PROGRAM: compiles a C program with the archive
+link_c() { # link_c SOURCE PROGRAM ARCHIVE: compiles a C program with an archive
     mkdir -p "$built"
-    "${compile[@]}" -O2 -g "${warnings[@]}" -I include "$1" "$archive" -o "$2"
+    "${compile[@]}" -O2 -g "${warnings[@]}" -I include "$1" "$3" -o "$2"
 }
 
 build_server() {
-    link_c tests/c/server.c "$built/server"
+    link_c tests/c/server.c "$built/server" "$archive"
 }

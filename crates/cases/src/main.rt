@@ -1,7 +1,6 @@
 // The cases of the scope paper that are run: every refusal number from every call that can give it, and both sides of
-// each
-// limit. Each line says what was asked and what was answered; the file stdout beside this folder says what it should
-// be.
+// each limit. Each line says what was asked and what was answered; the file stdout beside this folder says what it
+// should be.
 mod openings;
 mod questions;
 mod say;

@@ -3,6 +3,7 @@
 ghost use Rattle.group.specs.Lists.{RunPromise};
 
 // How many steps were accepted, and the refusal that ended the list, or 0.
+#[repr(C)]
 pub struct Ran {
     pub accepted: usize,
     pub refusal: u16,

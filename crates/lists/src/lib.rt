@@ -3,6 +3,7 @@ ghost use Rattle.lists.specs.Records.{StepsPromise};
 use group::Ran;
 
 // One step: its kind and three numbers.
+#[repr(C)]
 pub struct Step {
     pub kind: u16,
     pub a: u16,
@@ -11,7 +12,8 @@ pub struct Step {
 }
 
 // Applies the steps in order up to the first refusal; what was applied before it stays and is counted.
-pub fn run_steps(bank: &mut [u16], steps: &[Step]) -> Ran
+#[no_mangle]
+pub extern "C" fn run_steps(bank: &mut [u16], steps: &[Step]) -> Ran
     ensures { λ r. ⌜ StepsPromise (now (bank .entry)) (now (steps .entry)) (r .accepted) (r .refusal)
         (now (bank .exit)) ⌝ }
 {
