@@ -1,6 +1,6 @@
 -- The lines that the bench prints of a bank: the group, each message, each controller. Each line ends in LF.
-use Prim.Native.Nat.{ℕ, zero, suc}
-use mathlib.Core.Bool.{Bool, true, false, cond}
+use Prim.Native.Nat.{ℕ}
+use mathlib.Core.Bool.{Bool, cond}
 use mathlib.Core.List.{List, [], _∷_, _++_}
 use Rattle.sets.specs.Set.{has}
 use Rattle.group.specs.Place.{members, mode, count, up, message, sender, stamp, value, held, delivered}

@@ -1,7 +1,7 @@
 -- Numbers as the bench prints them, in ASCII bytes, and what printing does to a lent buffer.
 use Prim.Native.Nat.{ℕ, zero, suc, _+_, _/_, _%_, _≤_}
 use mathlib.Core.Path.{_≡_}
-use mathlib.Core.Bool.{Bool, true, false, cond}
+use mathlib.Core.Bool.{cond}
 use mathlib.Core.List.{List, [], _∷_, _++_}
 use lib.Dec.{ltb}
 use lib.ListN.{length}
@@ -26,8 +26,8 @@ hex w = hexDigit (w / 4096 % 16) ∷ hexDigit (w / 256 % 16) ∷ hexDigit (w / 1
 abbrev pub Room : ℕ → ℕ → Type 0
 Room most at = at + most ≤ 65536
 
--- a text of at most so many bytes stands in a buffer from a place on, as far as the buffer reaches (past its end nothing
--- is stored); the place after the text is answered
+-- a text of at most so many bytes stands in a buffer from a place on, as far as the buffer reaches (past its end
+-- nothing is stored); the place after the text is answered
 pub record Prints (most : ℕ) (out : List ℕ) (at : ℕ) (text : List ℕ) (r : ℕ) (out′ : List ℕ) : Type 0 where
   pub ends : r ≡ at + length text
   pub leaves : out′ ≡ sets out at text

@@ -1,5 +1,6 @@
 // The lines that the bench prints of a bank, which they only read. Each function prints from a place of a lent buffer
-// on, as far as the buffer reaches, and answers the place after what it printed.
+// on, as far as the buffer reaches, and answers the place after what it printed; a local is the place where what it
+// names begins.
 ghost use Prim.Native.Nat.{_≤_, _<_};
 ghost use lib.ListN.{length};
 ghost use Rattle.group.specs.Place;

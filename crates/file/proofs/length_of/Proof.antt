@@ -1,11 +1,11 @@
 -- length_of: each arm's kind decides the definition, and one that no arm names is unknown.
 use native.Mathlib.Omega.{arith}
-use Prim.Native.Nat.{ℕ, _≤_, _<_}
-use mathlib.Core.Path.{_≡_, refl, sym, ap, _∙_}
-use mathlib.Core.Bool.{true, false, _&&_}
-use mathlib.Core.Logic.{_⊎_, inl, inr, ⊎-elim}
+use Prim.Native.Nat.{_≤_}
+use mathlib.Core.Path.{_≡_}
+use mathlib.Core.Bool.{false, _&&_}
+use mathlib.Core.Logic.{inl, inr, ⊎-elim}
 use lib.Dec.{leb}
-use borrow.Author.Tests.{le-leb, lt-leb, eq-eqb, ne-eqb}
+use borrow.Author.Tests.{le-leb, lt-leb, ne-eqb}
 use Rattle.file.specs.Records.{lengthOf}
 use Rattle.file.proofs.length_of.Statement.{statement}
 use Rattle.file.proofs.length_of.Tie as tie

@@ -1,7 +1,6 @@
 -- number_at: a record too short for the number has none, and else it stands two bytes a number after the kind.
 use borrow.Author.Tests.{le-leb, lt-leb}
-use mathlib.Core.Path.{sym, _∙_}
-use Prim.Native.Nat.{ℕ, _+_, _*_, _≤_, _<_}
+use Prim.Native.Nat.{_+_, _*_, _≤_, _<_}
 use native.Mathlib.Omega.{arith}
 use Rattle.file.specs.Records.{wordAt}
 use borrow.Author.Needs.{needs}

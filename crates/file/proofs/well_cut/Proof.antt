@@ -1,9 +1,9 @@
 -- well_cut: each test that fails decides; what is left after a place stands for the sums of the definition.
-use Prim.Native.Nat.{ℕ, _+_, _*_, _%_, _≤_, _<_}
+use Prim.Native.Nat.{_+_, _%_, _≤_, _<_}
 use native.Mathlib.Omega.{arith}
 use lib.ListN.{length}
 use borrow.Author.Tests.{le-leb, lt-leb, eq-eqb, ne-eqb}
-use mathlib.Core.Path.{_≡_, sym, ap, _∙_}
+use mathlib.Core.Path.{sym, ap, _∙_}
 use Rattle.file.specs.Records.{wordAt}
 use borrow.Author.Needs.{needs}
 use Rattle.file.proofs.well_cut.Statement.{statement}

@@ -1,6 +1,8 @@
 -- bench: the tests part the three reports; what is printed is the report, and the bank behind it is fit.
+use Prim.Native.Nat.{ℕ}
 use mathlib.Core.Path.{_≡_, sym, ap₂, _∙_}
 use mathlib.Core.Bool.{true}
+use mathlib.Core.List.{List}
 use native.Mathlib.Omega.{arith}
 use borrow.Author.Tests.{not-true, not-false}
 use Rattle.group.specs.Layout.{paper}
@@ -14,11 +16,17 @@ use borrow.Author.Needs.{needs}
 use Rattle.report.proofs.bench.Statement.{statement}
 use Rattle.report.proofs.bench.Tie as tie
 
-is-begun : (c : tie.Else1) → begun (c .before .before .before .before .args .input .now) ≡ true
-is-begun c = sym (c .before .begun .ensures) ∙ not-false _ (c .if1 .left)
+-- the file's bytes, at the place where the group has been opened
+abbrev file : tie.After-open → List ℕ
+file c = c .before .before .before .before .before .before .before .before .args .input .now
 
-opens : (c : tie.After-open) → let s = c .before .before .before .before .before .before .before .before .args .input .now in
-    answer (c .«open» .result) (c .«open» .last .0) ≡ openOf paper blankBank (wordAt s 4) (wordAt s 6)
+is-begun : (c : tie.After-open) → begun (file c) ≡ true
+is-begun c =
+    let e = c .before .before .before .before in
+    sym (e .before .begun .ensures) ∙ not-false _ (e .if1 .left)
+
+opens : (c : tie.After-open)
+    → answer (c .«open» .result) (c .«open» .last .0) ≡ openOf paper blankBank (wordAt (file c) 4) (wordAt (file c) 6)
 opens c =
     c .«open» .ensures
     ∙ ap₂ (openOf paper blankBank) (c .before .before .word-at .ensures) (c .before .word-at2 .ensures)
@@ -62,14 +70,13 @@ returns-2 c =
     let l = c .before .before in
     let t = l .before .before in
     let o = t .before .before in
-    let e = is-begun (o .before .before .before .before) in
-    (promised _ (l .end-line2 .ensures) (reports-refused _ e (opens o) (t .if2 .taken)), omega arith)
+    (promised _ (l .end-line2 .ensures) (reports-refused _ (is-begun o) (opens o) (t .if2 .taken)), omega arith)
 
 slice-aggregate-play : tie.Need-slice-aggregate-play
 slice-aggregate-play c = search needs
 
 play-requires : tie.Need-play-requires
-play-requires c κs = begun-length _ (is-begun (c .before .before .before .before .before .before .before))
+play-requires c κs = begun-length _ (is-begun (c .before .before .before))
 
 slice-aggregate-bank-lines : tie.Need-slice-aggregate-bank-lines
 slice-aggregate-bank-lines c = search needs
@@ -79,8 +86,7 @@ bank-lines-requires c κs =
     let p = c .before .before .before in
     let t = p .before .before in
     let o = t .before .before in
-    let e = is-begun (o .before .before .before .before) in
-    (omega arith, fit-reported _ e (opens o) (t .if2 .left) (p .play .ensures))
+    (omega arith, fit-reported _ (is-begun o) (opens o) (t .if2 .left) (p .play .ensures))
 
 end-line-requires-3 : tie.Need-end-line-requires-3
 end-line-requires-3 c κs = search needs
@@ -95,9 +101,8 @@ returns-3 c =
     let p = b .before .before .before .before in
     let t = p .before .before in
     let o = t .before .before in
-    let e = is-begun (o .before .before .before .before) in
     let both = b .bank-lines .ensures then l .end-line3 .ensures in
-    (promised _ both (reports-played _ e (opens o) (t .if2 .left) (p .play .ensures)), omega arith)
+    (promised _ both (reports-played _ (is-begun o) (opens o) (t .if2 .left) (p .play .ensures)), omega arith)
 
 pub bench-spec : {M : Type 1} → statement M
 bench-spec =

@@ -1,6 +1,6 @@
 -- controller_line: its pieces one after another are the line; the log is the one that the group hands back.
 use native.Mathlib.Omega.{arith}
-use mathlib.Core.Path.{ap, sym}
+use mathlib.Core.Path.{ap}
 use Rattle.report.specs.Lines
 use Rattle.report.proofs.Printing.{_then_, as-text}
 use Rattle.report.proofs.Rows.{short-log}
@@ -28,8 +28,10 @@ log-requires c κs = search needs
 
 entries-requires : tie.Need-entries-requires
 entries-requires c κs =
-    let s = c .before .before .before .before .before .before .before .before .before .before .before .before .before .before .before in
-    (omega arith, rw (c .log .ensures) (short-log (s .args .bank .now) (s .args .i)))
+    let u = c .before .before .before .before in
+    let n = u .before .before .before .before .before .before in
+    let a = n .before .before .before .before .before .args in
+    (omega arith, rw (c .log .ensures) (short-log (a .bank .now) (a .i)))
 
 put-requires : tie.Need-put-requires
 put-requires c κs = search needs

@@ -1,6 +1,7 @@
 -- play: at every turn the state of the whole file is the state from this place on.
-use Prim.Native.Nat.{_+_, _*_, _-_, _≤_}
+use Prim.Native.Nat.{ℕ, _+_, _*_, _-_, _≤_}
 use mathlib.Core.Path.{_≡_, refl, sym, ap, _∙_}
+use mathlib.Core.List.{List}
 use native.Mathlib.Omega.{arith}
 use lib.ListN.{length}
 use borrow.Author.Needs.{needs}
@@ -23,15 +24,16 @@ Inv-loop bank₀ s i₀ steps₀ bank i steps =
 abbrev μ-loop : tie.MeasureT-loop
 μ-loop bank₀ s i₀ steps₀ bank i steps = length s - i
 
-found : (c : tie.After-found2 Inv-loop μ-loop) → let f = c .before .before in
-    let r = c .found2 .given .0 .0 in
-    got (r .kind) (r .a) (r .b) (r .c) (r .next)
-    ≡ findAt (f .before .before .before .before .args .s .now) (f .before .loop .i)
+-- the file's bytes and the place, where a record has been found
+abbrev here : tie.After-found2 Inv-loop μ-loop → (s : List ℕ) × ℕ
+here c = let l = c .before .before .before in (l .before .before .before .args .s .now, l .loop .i)
+
+found : (c : tie.After-found2 Inv-loop μ-loop) → let r = c .found2 .given .0 .0 in
+    got (r .kind) (r .a) (r .b) (r .c) (r .next) ≡ findAt (here c .0) (here c .1)
 found c = ap said (sym (c .found2 .given .1)) ∙ c .before .before .find-at .ensures
 
-onward : (c : tie.After-found2 Inv-loop μ-loop) → let f = c .before .before in
-    let j = c .found2 .given .0 .0 .next in
-    (f .before .loop .i + 6 ≤ j) × (j ≤ length (f .before .before .before .before .args .s .now))
+onward : (c : tie.After-found2 Inv-loop μ-loop) → let j = c .found2 .given .0 .0 .next in
+    (here c .1 + 6 ≤ j) × (j ≤ length (here c .0))
 onward c = record-onward _ _ (found c)
 
 loop-holds : tie.Need-loop-holds Inv-loop μ-loop
@@ -50,8 +52,8 @@ returns : tie.Need-returns Inv-loop μ-loop
 returns c =
     let f = c .before .before in
     let l = f .before .loop in
-    plays-end _ (l .i) (l .steps) (l .bank) (ap said (sym (c .enum-told .given .1)) ∙ f .find-at .ensures)
-    ∙ sym (l .inv .3)
+    let e = ap said (sym (c .enum-told .given .1)) ∙ f .find-at .ensures in
+    plays-end _ (l .i) (l .steps) (l .bank) e ∙ sym (l .inv .3)
 
 enum-known-found : tie.Need-enum-known-found Inv-loop μ-loop
 enum-known-found c = search needs
@@ -64,8 +66,8 @@ returns-2 c =
     let k = c .before in
     let f = k .before .before in
     let l = f .before .loop in
-    plays-bad _ (l .i) (l .steps) (l .bank) _ (ap said (sym (k .found .given .1)) ∙ f .find-at .ensures)
-    ∙ sym (l .inv .3)
+    let e = ap said (sym (k .found .given .1)) ∙ f .find-at .ensures in
+    plays-bad _ (l .i) (l .steps) (l .bank) _ e ∙ sym (l .inv .3)
 
 enum-known-found-2 : tie.Need-enum-known-found-2 Inv-loop μ-loop
 enum-known-found-2 c = search needs

@@ -1,5 +1,5 @@
 -- decimal: a number below ten is its digit; else the digits of a tenth of it, which is less, come before the last one.
-use Prim.Native.Nat.{ℕ, _+_, _/_, _≤_, _<_}
+use Prim.Native.Nat.{ℕ, _/_, _≤_, _<_}
 use mathlib.Core.Path.{_∙_}
 use native.Mathlib.Omega.{arith}
 use lib.ListN.{length}
@@ -67,10 +67,8 @@ returns-2 t c =
     let p = c .before .before in
     let d = p .before .before .before .before in
     let e = d .before .before in
-    bounded
-    (as-text (d .decimal .ensures then p .put2 .ensures)
-    (more-digits _ (e .if1 .left) (e .before .before .fits .x .fits)))
-    (length-decimal _)
+    let text = more-digits _ (e .if1 .left) (e .before .before .fits .x .fits) in
+    bounded (as-text (d .decimal .ensures then p .put2 .ensures) text) (length-decimal _)
 
 pub +decimal-spec : {M : Type 1} → statement M
 +decimal-spec = close number λ t.

@@ -20,7 +20,8 @@ returns c = search needs
 
 returns-2 : tie.Need-returns-2
 returns-2 c =
-    record { ends = refl; leaves = sym (set-out (c .before .args .out .now) (c .before .args .at) _ (c .if1 .left)); within = omega arith }
+    let a = c .before .args in
+    record { ends = refl; leaves = sym (set-out (a .out .now) (a .at) _ (c .if1 .left)); within = omega arith }
 
 pub put-spec : {M : Type 1} → statement M
 put-spec = tie.close (tie.spec add-next slice-write-out same-length returns returns-2)
