@@ -5,3 +5,4 @@ pub mod Rows
 pub mod Playing
 pub mod Reporting
 pub mod Determined
+pub mod Example
