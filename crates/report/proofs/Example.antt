@@ -31,6 +31,6 @@ sixLines =
     48 ∷ 10 ∷ 101 ∷ 110 ∷ 100 ∷ 32 ∷ 49 ∷ 57 ∷ 32 ∷ 48 ∷ 10 ∷ []
 
 pub worked-example : benchOf workedExample ≡ sixLines
-unfolding has with without allBelow cut withAll every within tally countBelow fields opened openOf enough refusalOf stepOf
-    candidates next settleFrom settleOf lengthOf findAt begun decimalIn entries lines bankLines applied playFrom benchOf
+unfolding has with without allBelow cut withAll every within tally countBelow fields opened openOf enough refusalOf
+    stepOf candidates next settleFrom settleOf lengthOf findAt begun decimalIn entries lines bankLines applied playFrom benchOf
 worked-example = refl
