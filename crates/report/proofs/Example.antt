@@ -32,5 +32,6 @@ sixLines =
 
 pub worked-example : benchOf workedExample ≡ sixLines
 unfolding has with without allBelow cut withAll every within tally countBelow fields opened openOf enough refusalOf
-    stepOf candidates next settleFrom settleOf lengthOf findAt begun decimalIn entries lines bankLines applied playFrom benchOf
+    stepOf candidates next settleFrom settleOf lengthOf findAt begun decimalIn entries lines bankLines applied
+    playFrom benchOf
 worked-example = refl
