@@ -11,13 +11,13 @@ use borrow.Author.Tests.{le-leb, leb-true, ltb-true, eqb-true, ne-eqb}
 use Rattle.sets.specs.Set.{allBelow}
 use Rattle.sets.proofs.Counts.{every-is, every-at}
 use Rattle.group.specs.Place.{Field, Place, Words, recordOf, Write, _≔_, members, mode, count, up, logLength}
-use Rattle.group.specs.Layout.{Layout, size, address, words, inRecord}
+use Rattle.group.specs.Layout.{Layout, size, address, words, inRecord, PlaceIn}
 use Rattle.group.specs.Fit.{Fit, fit, isSize, isMode}
 use Rattle.group.specs.Opening.{views, opening, opened, openOf}
 use Rattle.group.specs.Step.{Step, broadcast, send, receive, deliver, crash, detect, lose, asked}
 use Rattle.group.specs.Writes.{freshRecord, writes}
 use Rattle.group.specs.Promises.{Allowed, after, askedAfter, refusalOf, stepOf}
-use Rattle.group.proofs.Places.{PlaceIn, key, samePlace, inside}
+use Rattle.group.proofs.Places.{key, samePlace, inside}
 use Rattle.group.proofs.Reading.{later, length-puts, words-after, later-append}
 use Rattle.group.proofs.Rules.{stop}
 use Rattle.group.proofs.Fitness.{facts-fit, allowed-step}

@@ -13,30 +13,10 @@ use Rattle.group.specs.Place.{Field, Place}
 use Rattle.group.specs.Place.{sender, stamp, value, held, delivered, acked, unsent, inFlight}
 use Rattle.group.specs.Place.{members, mode, count, up, view, logLength, log, message}
 use Rattle.group.specs.Layout.{Layout, start, recordWidths, recordSize, bankWidths}
-use Rattle.group.specs.Layout.{offset, recordAt, address, size}
+use Rattle.group.specs.Layout.{offset, recordAt, address, size, run, index, FieldIn, PlaceIn}
 use Rattle.group.proofs.Regions.{start-below, in-regions, one-spot, one-row}
 
 -- ---- a name as four numbers: the region of the bank, the run of words in its row, the index in the run, the row
-
-abbrev pub run : Field → ℕ
-run sender = 0
-run stamp = 1
-run value = 2
-run held = 3
-run delivered = 4
-run (acked i) = 5
-run (unsent i) = 6
-run (inFlight i) = 7
-
-abbrev pub index : Field → ℕ
-index sender = 0
-index stamp = 0
-index value = 0
-index held = 0
-index delivered = 0
-index (acked i) = i
-index (unsent i) = i
-index (inFlight i) = i
 
 pub record Key : Type 0 where
   pub region : ℕ
@@ -65,21 +45,6 @@ abbrev pub samePlace : Place → Place → Bool
 samePlace p q =
     eqb (key p .region) (key q .region)
     && (eqb (key p .run) (key q .run) && (eqb (key p .index) (key q .index) && eqb (key p .row) (key q .row)))
-
--- ---- the places that a layout has
-
-abbrev pub FieldIn : Layout → Field → Type 0
-FieldIn L f = index f < getD (recordWidths L) (run f) 0
-
-abbrev pub PlaceIn : Layout → Place → Type 0
-PlaceIn L members = Unit {0}
-PlaceIn L mode = Unit {0}
-PlaceIn L count = Unit {0}
-PlaceIn L up = Unit {0}
-PlaceIn L (view i) = i < L .controllers
-PlaceIn L (logLength i) = i < L .controllers
-PlaceIn L (log i k) = (i < L .controllers) × (k < L .messages)
-PlaceIn L (message m f) = (m < L .messages) × FieldIn L f
 
 -- ---- a place's address by its key
 

@@ -9,8 +9,8 @@ use lib.ListN.{length, getD, set, length-set}
 use lib.Seq.{getD-set-same, getD-set-other}
 use borrow.Author.Tests.{eqb-true, eqb-false}
 use Rattle.group.specs.Place.{Field, Place, message, Write, _≔_}
-use Rattle.group.specs.Layout.{Layout, size, address, puts, words, inRecord}
-use Rattle.group.proofs.Places.{samePlace, sameField, PlaceIn, FieldIn, run, index, same-address, inside}
+use Rattle.group.specs.Layout.{Layout, size, address, puts, words, inRecord, PlaceIn, FieldIn, run, index}
+use Rattle.group.proofs.Places.{samePlace, sameField, same-address, inside}
 
 -- what a place holds after some writes, if it held x before
 abbrev pub later : List (Write Place) → Place → ℕ → ℕ

@@ -88,6 +88,42 @@ address L (message m f) = recordAt L m + offset L f
 abbrev pub size : Layout → ℕ
 size L = start 8 (bankWidths L)
 
+-- ---- the places that a layout has
+
+-- in which region of its record a word stands, and where there
+abbrev pub run : Field → ℕ
+run sender = 0
+run stamp = 1
+run value = 2
+run held = 3
+run delivered = 4
+run (acked i) = 5
+run (unsent i) = 6
+run (inFlight i) = 7
+
+abbrev pub index : Field → ℕ
+index sender = 0
+index stamp = 0
+index value = 0
+index held = 0
+index delivered = 0
+index (acked i) = i
+index (unsent i) = i
+index (inFlight i) = i
+
+abbrev pub FieldIn : Layout → Field → Type 0
+FieldIn L f = index f < getD (recordWidths L) (run f) 0
+
+abbrev pub PlaceIn : Layout → Place → Type 0
+PlaceIn L members = Unit {0}
+PlaceIn L mode = Unit {0}
+PlaceIn L count = Unit {0}
+PlaceIn L up = Unit {0}
+PlaceIn L (view i) = i < L .controllers
+PlaceIn L (logLength i) = i < L .controllers
+PlaceIn L (log i k) = (i < L .controllers) × (k < L .messages)
+PlaceIn L (message m f) = (m < L .messages) × FieldIn L f
+
 -- ---- reading and writing by name, where `at` says the place of each name
 
 module _ {A : Type 0} (at : A → ℕ) where

@@ -13,10 +13,10 @@ use Rattle.group.specs.Step.{Step}
 use Rattle.group.specs.Refusals.{isUp, holding, hasDelivered}
 use Rattle.group.specs.Logs.{logOf}
 use Rattle.group.specs.Promises.{Allowed}
-use Rattle.laws.specs.Sets.{Sets, Ok, Quorate}
 use Rattle.laws.specs.Runs.{Ended, Settling}
 use Rattle.laws.specs.Logs.{occurs}
 use Rattle.laws.specs.Demand.{Reached, Quorum}
+use Rattle.laws.proofs.Sets.{Sets, Ok, Quorate}
 use Rattle.laws.proofs.Visible.{visible, seen-in}
 use Rattle.laws.proofs.Bridge.{recordSets, sets}
 use Rattle.laws.proofs.Steps.{setsOf}

@@ -1,7 +1,7 @@
 -- What a bank allows its sets allow, and what they allow of settling the bank allows where a log has room.
 use mathlib.Core.Path.{_≡_, refl, sym, ap, ap₂, _∙_}
 use mathlib.Core.Bool.{Bool, true, false, not, _&&_, false≢true}
-use mathlib.Core.List.{List}
+use mathlib.Core.List.{List, [], _∷_, _++_}
 use Prim.Native.Nat.{ℕ, _<_}
 use native.Mathlib.Omega.{arith}
 use lib.Dec.{eqb, ltb}
@@ -9,14 +9,14 @@ use borrow.Author.Tests.{lt-ltb, ltb-true, eq-eqb, eqb-true, not-true}
 use Rattle.sets.specs.Set.{has, within, countBelow}
 use Rattle.group.specs.Place.{Field, Place, members, mode, count, up, view, logLength, message}
 use Rattle.group.specs.Place.{held, delivered, acked, unsent, inFlight}
-use Rattle.group.specs.Layout.{Layout, words}
+use Rattle.group.specs.Layout.{Layout, words, PlaceIn, FieldIn}
 use Rattle.group.specs.Fit.{Fit, allAck}
 use Rattle.group.specs.Step.{Step, broadcast, send, receive, deliver, crash, detect, lose}
-use Rattle.group.specs.Refusals.{enough}
+use Rattle.group.specs.Refusals.{_else_, Holds, copy, isUp, enough}
 use Rattle.group.specs.Promises.{Allowed}
-use Rattle.group.proofs.Places.{PlaceIn, FieldIn}
 use Rattle.group.proofs.Bounds.{controller-below, message-below, copy-below}
-use Rattle.laws.specs.Sets.{Sets, enoughOf, Ok, settles}
+use Rattle.laws.specs.Runs.{settles}
+use Rattle.laws.proofs.Sets.{Sets, enoughOf, Named, Ok}
 use Rattle.laws.proofs.Visible.{visible, seen-in}
 use Rattle.laws.proofs.Bridge.{recordSets, sets}
 use Rattle.laws.proofs.Steps.{setsOf}
@@ -25,6 +25,40 @@ module _ (L : Layout) (b : List ℕ) where
   -- a set word of a place that the layout has
   same-has : (p : Place) (j : ℕ) → PlaceIn L p → has (visible L (words L b) p) j ≡ has (words L b p) j
   same-has p j h = ap (λ x. has x j) (seen-in L (words L b) p h)
+
+  -- the names of a copy, and the set word g of its record: seen or read, k is in it or not
+  named : (i j m : ℕ) → Holds (copy (words L b) i j m) → Named (setsOf L b) i j m
+  unfolding setsOf sets visible
+  named i j m h = (ltb-true _ _ (h .0), ltb-true _ _ (h .1 .0), ltb-true _ _ (h .1 .1 .0))
+
+  same-copy : Fit L b → (i j m k : ℕ) (g : Field) → Holds (copy (words L b) i j m)
+      → (i < L .controllers → j < L .controllers → FieldIn L g)
+      → has (visible L (words L b) (message m g)) k ≡ has (words L b (message m g)) k
+  same-copy f i j m k g h own =
+      let d = copy-below L b f (h .0) (h .1 .0) (h .1 .1 .0) in same-has (message m g) k (d .2, own (d .0) (d .1))
+
+  -- what a send and a receipt ask for: i acts, and the set g of i's has j
+  module _ (f : Fit L b) (i j m : ℕ) (g : Field) (own : i < L .controllers → j < L .controllers → FieldIn L g) where
+    abbrev Asked : Type 0
+    Asked = Holds (copy (words L b) i j m ++ (isUp (words L b) i else 6 ∷ has (words L b (message m g)) j else 8 ∷ []))
+
+    abbrev Seen : Type 0
+    Seen =
+        Named (setsOf L b) i j m
+        × (setsOf L b .up i ≡ true)
+        × (has (visible L (words L b) (message m g)) j ≡ true)
+
+    asked-seen : Asked → Seen
+    unfolding setsOf sets visible
+    asked-seen h =
+        let c : Holds (copy (words L b) i j m) = (h .0, (h .1 .0, (h .1 .1 .0, tt))) in
+        (named i j m c, h .1 .1 .1 .0, same-copy f i j m j g c own ∙ h .1 .1 .1 .1 .0)
+
+    seen-asked : Seen → Asked
+    unfolding setsOf sets visible
+    seen-asked ((hi, hj, hm), u, h) =
+        let c : Holds (copy (words L b) i j m) = (lt-ltb _ _ hi, (lt-ltb _ _ hj, (lt-ltb _ _ hm, tt))) in
+        (c .0, (c .1 .0, (c .1 .1 .0, (u, (sym (same-copy f i j m j g c own) ∙ h, tt)))))
 
   same-enough : (k n i m : ℕ) → i < L .controllers → m < L .messages
       → enoughOf k n (λ a. has (visible L (words L b) (view i)) a) (λ a. has (visible L (words L b) (message m
@@ -39,20 +73,8 @@ module _ (L : Layout) (b : List ℕ) where
   unfolding setsOf sets recordSets visible
   allowed-ok (broadcast who s v) a =
       (ltb-true _ _ (a .free .0), a .free .1 .0, ltb-true _ _ (a .free .1 .1 .0))
-  allowed-ok (send from to m) a =
-      let f = a .free in
-      let c = copy-below L b (a .sound) (f .0) (f .1 .0) (f .1 .1 .0) in (
-        (ltb-true _ _ (f .0), ltb-true _ _ (f .1 .0), ltb-true _ _ (f .1 .1 .0)),
-        f .1 .1 .1 .0,
-        same-has (message m (unsent from)) to (c .2, c .0) ∙ f .1 .1 .1 .1 .0,
-      )
-  allowed-ok (receive i from m) a =
-      let f = a .free in
-      let c = copy-below L b (a .sound) (f .0) (f .1 .0) (f .1 .1 .0) in (
-        (ltb-true _ _ (f .0), ltb-true _ _ (f .1 .0), ltb-true _ _ (f .1 .1 .0)),
-        f .1 .1 .1 .0,
-        same-has (message m (inFlight i)) from (c .2, c .0) ∙ f .1 .1 .1 .1 .0,
-      )
+  allowed-ok (send from to m) a = asked-seen (a .sound) from to m (unsent from) (λ x y. x) (a .free)
+  allowed-ok (receive i from m) a = asked-seen (a .sound) i from m (inFlight i) (λ x y. x) (a .free)
   allowed-ok (deliver i m) a =
       let f = a .free in
       let j = controller-below L b (a .sound) i (f .0) in
@@ -79,9 +101,9 @@ module _ (L : Layout) (b : List ℕ) where
       )
   allowed-ok (lose from to m) a =
       let f = a .free in
-      let c = copy-below L b (a .sound) (f .0) (f .1 .0) (f .1 .1 .0) in (
-        (ltb-true _ _ (f .0), ltb-true _ _ (f .1 .0), ltb-true _ _ (f .1 .1 .0)),
-        same-has (message m (inFlight to)) from (c .2, c .1) ∙ f .1 .1 .1 .0,
+      let c : Holds (copy (words L b) from to m) = (f .0, (f .1 .0, (f .1 .1 .0, tt))) in (
+        named from to m c,
+        same-copy (a .sound) from to m from (inFlight to) c (λ x y. y) ∙ f .1 .1 .1 .0,
         not-true _ (f .1 .1 .1 .1 .0),
       )
 
@@ -98,36 +120,10 @@ module _ (L : Layout) (b : List ℕ) where
   pub ok-allowed : Fit L b → (s : Step) → settles s ≡ true → Roomy s → Ok (L .messages) (setsOf L b) s → Allowed L b s
   unfolding setsOf sets recordSets visible
   ok-allowed f (broadcast who s v) e r o = absurd (false≢true e)
-  ok-allowed f (send from to m) e r (n, u, h) =
-      let d = copy-below L b f (lt-ltb _ _ (n .0)) (lt-ltb _ _ (n .1)) (lt-ltb _ _ (n .2)) in
-      record {
-        sound = f;
-        free = (
-          lt-ltb _ _ (n .0),
-          (
-            lt-ltb _ _ (n .1),
-            (
-              lt-ltb _ _ (n .2),
-              (u, (sym (same-has (message m (unsent from)) to (d .2, d .0)) ∙ h, tt)),
-            ),
-          ),
-        );
-      }
-  ok-allowed f (receive i from m) e r (n, u, h) =
-      let d = copy-below L b f (lt-ltb _ _ (n .0)) (lt-ltb _ _ (n .1)) (lt-ltb _ _ (n .2)) in
-      record {
-        sound = f;
-        free = (
-          lt-ltb _ _ (n .0),
-          (
-            lt-ltb _ _ (n .1),
-            (
-              lt-ltb _ _ (n .2),
-              (u, (sym (same-has (message m (inFlight i)) from (d .2, d .0)) ∙ h, tt)),
-            ),
-          ),
-        );
-      }
+  ok-allowed f (send from to m) e r o =
+      record { sound = f; free = seen-asked f from to m (unsent from) (λ x y. x) o }
+  ok-allowed f (receive i from m) e r o =
+      record { sound = f; free = seen-asked f i from m (inFlight i) (λ x y. x) o }
   ok-allowed f (deliver i m) e r (n, u, h) =
       let j = controller-below L b f i (lt-ltb _ _ (n .0)) in
       let k = message-below L b f m (lt-ltb _ _ (n .1)) in

@@ -11,13 +11,13 @@ use Rattle.sets.proofs.Members.{has-with, has-without, has-with-all, has-all-be
 use Rattle.group.specs.Place.{Field, Place, Words, Record, Write, _≔_}
 use Rattle.group.specs.Place.{sender, stamp, value, held, delivered, acked, unsent, inFlight}
 use Rattle.group.specs.Place.{members, mode, count, up, view, message}
-use Rattle.group.specs.Layout.{inRecord}
+use Rattle.group.specs.Layout.{inRecord, run, index}
 use Rattle.group.specs.Writes.{fresh, sent, received}
-use Rattle.group.proofs.Places.{run, index, sameField, samePlace}
+use Rattle.group.proofs.Places.{sameField, samePlace}
 use Rattle.group.proofs.Reading.{later}
-use Rattle.laws.specs.Sets.{RecordSets, Sets, put, putAt, newRecord}
-use Rattle.laws.specs.Sets.{afterSend, afterReceive, afterDeliver, afterLose}
-use Rattle.laws.specs.Sets.{inMessage}
+use Rattle.laws.proofs.Sets.{RecordSets, Sets, put, putAt, newRecord}
+use Rattle.laws.proofs.Sets.{afterSend, afterReceive, afterDeliver, afterLose}
+use Rattle.laws.proofs.Sets.{inMessage}
 
 -- ---- the sets of words
 

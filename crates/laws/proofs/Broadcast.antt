@@ -5,11 +5,10 @@ use Prim.Native.Nat.{ℕ, _+_}
 use borrow.Author.Tests.{ltb-true}
 use Rattle.group.specs.Place.{Field, _≔_}
 use Rattle.group.specs.Place.{members, count, message}
-use Rattle.group.specs.Layout.{Layout, words, fields, inRecord}
+use Rattle.group.specs.Layout.{Layout, words, fields, inRecord, FieldIn}
 use Rattle.group.specs.Step.{broadcast}
 use Rattle.group.specs.Writes.{fresh}
 use Rattle.group.specs.Promises.{Allowed, after}
-use Rattle.group.proofs.Places.{FieldIn}
 use Rattle.group.proofs.Reading.{later-append}
 use Rattle.laws.proofs.Names.{record-word}
 use Rattle.laws.proofs.Untouched.{word-after}

@@ -13,8 +13,9 @@ use borrow.Author.Tests.{eqb-true, eqb-false}
 use Rattle.group.specs.Layout.{upFrom}
 use Rattle.group.specs.Step.{Step, send, receive, deliver, detect}
 use Rattle.settler.specs.Candidates.{below, each, pairs, ofMessage, candidates}
-use Rattle.laws.specs.Sets.{Sets, Ok, settles}
+use Rattle.laws.specs.Runs.{settles}
 use Rattle.laws.specs.Settler.{turn, InTurn}
+use Rattle.laws.proofs.Sets.{Sets, Ok}
 use Rattle.laws.proofs.Swap.{SettlingKind, sends, receives, delivers, detects}
 
 -- ---- a fact of every step of a list

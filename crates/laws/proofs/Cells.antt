@@ -4,7 +4,7 @@ use mathlib.Core.Bool.{Bool, true, false, cond, _&&_, and-false, and-eq-true-iff
 use Prim.Native.Nat.{ℕ}
 use lib.Dec.{eqb}
 use borrow.Author.Tests.{eqb-true, eqb-false}
-use Rattle.laws.specs.Sets.{cell}
+use Rattle.laws.proofs.Sets.{cell}
 
 -- ---- truth values
 

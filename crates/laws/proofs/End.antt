@@ -5,8 +5,8 @@ use Prim.Native.Nat.{ℕ, _*_, _<_}
 use Rattle.sets.specs.Set.{tally}
 use Rattle.group.specs.Fit.{allAck, majority}
 use Rattle.group.specs.Step.{send, receive, deliver, detect}
-use Rattle.laws.specs.Sets.{Sets, enoughOf, Ok, Quorate}
 use Rattle.laws.specs.Runs.{Ended, Settling}
+use Rattle.laws.proofs.Sets.{Sets, enoughOf, Ok, Quorate}
 use Rattle.laws.proofs.Enough.{enough-grows, enough-meets, quorum, all-trusted, more-than-half}
 use Rattle.laws.proofs.Cells.{is-true, is-false}
 use Rattle.laws.proofs.Copies.{acked-at, live}

@@ -13,17 +13,16 @@ use Rattle.sets.specs.Set.{has, tally}
 use Rattle.sets.proofs.Counts.{tally-same}
 use Rattle.group.specs.Place.{Place, members, mode, count, up, view, logLength, log, message}
 use Rattle.group.specs.Place.{sender, stamp, value, held, delivered, acked, unsent, inFlight}
-use Rattle.group.specs.Layout.{Layout, words}
+use Rattle.group.specs.Layout.{Layout, words, PlaceIn}
 use Rattle.group.specs.Fit.{Fit}
 use Rattle.group.specs.Step.{Step, broadcast, send, receive, deliver, crash, detect, lose}
 use Rattle.group.specs.Refusals.{hasDelivered}
 use Rattle.group.specs.Logs.{logOf}
 use Rattle.group.specs.Promises.{Allowed, after}
-use Rattle.group.proofs.Places.{PlaceIn}
-use Rattle.laws.specs.Sets.{Sets, Ok, settles}
-use Rattle.laws.specs.Runs.{Run, done, next, Ended, Settling}
+use Rattle.laws.specs.Runs.{Run, done, next, Ended, Settling, settles}
 use Rattle.laws.specs.Logs.{occurs, LogsRight}
 use Rattle.laws.specs.Demand.{Reached, Finished, isEntry, Alike}
+use Rattle.laws.proofs.Sets.{Sets, Ok}
 use Rattle.laws.proofs.Visible.{visible, seen-in}
 use Rattle.laws.proofs.Bridge.{recordSets, sets}
 use Rattle.laws.proofs.Steps.{setsOf}

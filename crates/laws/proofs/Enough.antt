@@ -9,7 +9,7 @@ use borrow.Author.Tests.{eqb-true, eq-eqb, ltb-true, lt-ltb}
 use Rattle.sets.specs.Set.{every, tally}
 use Rattle.sets.proofs.Counts.{every-at, every-is, tally-mono, Common, common}
 use Rattle.group.specs.Fit.{allAck, majority}
-use Rattle.laws.specs.Sets.{Sets, enoughOf, Quorate}
+use Rattle.laws.proofs.Sets.{Sets, enoughOf, Quorate}
 
 -- a fact that turns on whether the mode is all-ack
 by-mode : (k : ℕ) (P : Bool → Type 0) → (k ≡ allAck → P true) → P false → P (eqb k allAck)

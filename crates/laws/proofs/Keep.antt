@@ -7,9 +7,9 @@ use native.Mathlib.Omega.{arith}
 use lib.Dec.{eqb, ltb}
 use borrow.Author.Tests.{eq-eqb, lt-ltb, ltb-true}
 use Rattle.group.specs.Step.{Step, broadcast, send, receive, deliver, crash, detect, lose}
-use Rattle.laws.specs.Sets.{RecordSets, Sets, enoughOf, put, newRecord, act, inMessage, openSets, Ok}
-use Rattle.laws.specs.Sets.{afterSend, afterReceive, afterDeliver, afterLose}
 use Rattle.laws.specs.Runs.{Run, done, next}
+use Rattle.laws.proofs.Sets.{RecordSets, Sets, enoughOf, put, newRecord, act, inMessage, openSets, Ok}
+use Rattle.laws.proofs.Sets.{afterSend, afterReceive, afterDeliver, afterLose}
 use Rattle.laws.proofs.Enough.{enough-grows}
 use Rattle.laws.proofs.Cells.{clash, joined, was-in, on-one, on-cell}
 use Rattle.laws.proofs.Copies.{Copy, none, sent, received, lost, down, held-from, held-to, begun, acked-from}

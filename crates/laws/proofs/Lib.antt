@@ -1,4 +1,5 @@
 -- What holds of every run, from the sets up to the banks.
+pub mod Sets
 pub mod Runs
 pub mod Cells
 pub mod Enough

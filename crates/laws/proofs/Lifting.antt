@@ -6,9 +6,9 @@ use Rattle.group.specs.Layout.{Layout}
 use Rattle.group.specs.Opening.{opened}
 use Rattle.group.specs.Step.{Step}
 use Rattle.group.specs.Promises.{Allowed, after}
-use Rattle.laws.specs.Sets.{Sets, Ok, act, openSets}
 use Rattle.laws.specs.Runs.{Run, done, next, Settling}
 use Rattle.laws.specs.Demand.{Reached}
+use Rattle.laws.proofs.Sets.{Sets, Ok, act, openSets}
 use Rattle.laws.proofs.Steps.{setsOf, sets-after}
 use Rattle.laws.proofs.Allowing.{allowed-ok}
 use Rattle.laws.proofs.Opened.{sets-opened}

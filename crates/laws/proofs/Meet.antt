@@ -4,8 +4,8 @@ use mathlib.Core.Bool.{Bool, true, false, cond, not, _&&_, and-eq-true-iff}
 use Prim.Native.Nat.{ℕ}
 use lib.Dec.{eqb, ltb}
 use borrow.Author.Tests.{ne-eqb, not-true}
-use Rattle.laws.specs.Sets.{RecordSets, Sets, cell, put, putAt, recordWith, relayed, Ready}
-use Rattle.laws.specs.Sets.{afterSend, afterReceive, afterDeliver}
+use Rattle.laws.proofs.Sets.{RecordSets, Sets, cell, put, putAt, recordWith, relayed, Ready}
+use Rattle.laws.proofs.Sets.{afterSend, afterReceive, afterDeliver}
 use Rattle.laws.proofs.Enough.{enough-grows}
 use Rattle.laws.proofs.Cells.{clash, is-false, joined, cond-swap, cell-is}
 

@@ -13,9 +13,9 @@ use lib.ListN.{getD}
 use borrow.Author.Tests.{eq-eqb, eqb-true}
 use Rattle.group.specs.Place.{Field, Place, Write, _≔_, view, message}
 use Rattle.group.specs.Place.{sender, stamp, value, held, delivered, acked, unsent, inFlight}
-use Rattle.group.specs.Layout.{Layout, upFrom, fields, inRecord}
+use Rattle.group.specs.Layout.{Layout, upFrom, fields, inRecord, FieldIn, run, index}
 use Rattle.group.specs.Opening.{views}
-use Rattle.group.proofs.Places.{Key, key, FieldIn, run, index, samePlace}
+use Rattle.group.proofs.Places.{Key, key, samePlace}
 use Rattle.group.proofs.Reading.{later}
 use Rattle.group.proofs.Fitness.{both}
 

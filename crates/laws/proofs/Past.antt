@@ -8,12 +8,11 @@ use native.Mathlib.Omega.{arith}
 use lib.Dec.{eqb, ltb}
 use borrow.Author.Tests.{eq-eqb, eqb-true, ltb-true}
 use Rattle.group.specs.Place.{Place, Words, members, logLength, log, message, stamp, value}
-use Rattle.group.specs.Layout.{Layout, words}
+use Rattle.group.specs.Layout.{Layout, words, PlaceIn}
 use Rattle.group.specs.Step.{Step, broadcast, send, receive, deliver, crash, detect, lose}
 use Rattle.group.specs.Promises.{Allowed, after}
-use Rattle.group.proofs.Places.{key, PlaceIn}
-use Rattle.laws.specs.Sets.{settles}
-use Rattle.laws.specs.Runs.{Run, done, next, Settling}
+use Rattle.group.proofs.Places.{key}
+use Rattle.laws.specs.Runs.{Run, done, next, Settling, settles}
 use Rattle.laws.proofs.Untouched.{keeps, word-after, untouched}
 
 -- a word that is written only where two numbers are equal

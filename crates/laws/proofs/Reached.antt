@@ -8,12 +8,12 @@ use lib.ListN.{replicate, length-replicate, getD-replicate}
 use lib.Seq.{append-snoc}
 use Rattle.sets.specs.Set.{allBelow}
 use Rattle.group.specs.Place.{Place, Write, _≔_, members, mode, up}
-use Rattle.group.specs.Layout.{Layout, size, address, words}
+use Rattle.group.specs.Layout.{Layout, size, address, words, PlaceIn}
 use Rattle.group.specs.Fit.{Fit, isSize, isMode}
 use Rattle.group.specs.Opening.{views, opening, opened}
 use Rattle.group.specs.Step.{Step}
 use Rattle.group.specs.Promises.{Allowed, after}
-use Rattle.group.proofs.Places.{Key, key, PlaceIn, inside}
+use Rattle.group.proofs.Places.{Key, key, inside}
 use Rattle.group.proofs.Reading.{later, words-after}
 use Rattle.group.proofs.Views.{size-range}
 use Rattle.group.proofs.WritesIn.{opening-in}

@@ -17,10 +17,10 @@ use Rattle.group.proofs.Fitness.{facts-fit}
 use Rattle.group.proofs.Kept.{fit-after}
 use Rattle.settler.specs.Candidates
 use Rattle.settler.specs.Settling.{Ending, ending, onNext, settleFrom, settleOf}
-use Rattle.laws.specs.Sets.{Ok, act}
 use Rattle.laws.specs.Runs.{Run, done, next, Ended, Settling, settlings, most}
 use Rattle.laws.specs.Demand.{Reached, Finished}
 use Rattle.laws.specs.Settler.{chosen}
+use Rattle.laws.proofs.Sets.{Ok, act}
 use Rattle.laws.proofs.Visible.{visible}
 use Rattle.laws.proofs.Bridge.{sets}
 use Rattle.laws.proofs.Cells.{is-true}

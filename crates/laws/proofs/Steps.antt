@@ -9,15 +9,15 @@ use borrow.Author.Tests.{eqb-true}
 use Rattle.sets.specs.Set.{has, with, without}
 use Rattle.group.specs.Place.{Field, Words, Record, Write, _≔_}
 use Rattle.group.specs.Place.{delivered, inFlight, members, mode, count, up, view, message}
-use Rattle.group.specs.Layout.{Layout, words, fields, inRecord}
+use Rattle.group.specs.Layout.{Layout, words, fields, inRecord, PlaceIn, FieldIn}
 use Rattle.group.specs.Step.{Step, broadcast, send, receive, deliver, crash, detect, lose}
 use Rattle.group.specs.Writes.{fresh, freshRecord, sent, received, writes}
 use Rattle.group.specs.Promises.{Allowed, after}
-use Rattle.group.proofs.Places.{key, PlaceIn, FieldIn}
+use Rattle.group.proofs.Places.{key}
 use Rattle.group.proofs.Reading.{later, later-append}
 use Rattle.group.proofs.Bounds.{controller-below}
-use Rattle.laws.specs.Sets.{RecordSets, Sets, setsWith, inMessage, act}
-use Rattle.laws.specs.Sets.{newRecord, afterSend, afterReceive, afterDeliver, afterLose}
+use Rattle.laws.proofs.Sets.{RecordSets, Sets, setsWith, inMessage, act}
+use Rattle.laws.proofs.Sets.{newRecord, afterSend, afterReceive, afterDeliver, afterLose}
 use Rattle.laws.proofs.Visible.{visible, seen-outside, seen-after}
 use Rattle.laws.proofs.Bridge.{recordSets, sets, laterIn, out-one, out-at}
 use Rattle.laws.proofs.Bridge.{sets-sent, sets-received, sets-delivered, sets-lost, sets-fresh}

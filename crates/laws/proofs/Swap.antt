@@ -8,9 +8,9 @@ use lib.Dec.{eqb}
 use lib.ListN.{length}
 use borrow.Author.Tests.{eqb-true}
 use Rattle.group.specs.Step.{Step, broadcast, send, receive, deliver, crash, detect, lose, step-discrete}
-use Rattle.laws.specs.Sets.{RecordSets, Sets, enoughOf, cell, putAt, setsWith, inMessage, act, Ready, Ok}
-use Rattle.laws.specs.Sets.{afterSend, afterReceive, afterDeliver, settles}
-use Rattle.laws.specs.Runs.{Run, Ended, Settling}
+use Rattle.laws.specs.Runs.{Run, Ended, Settling, settles}
+use Rattle.laws.proofs.Sets.{RecordSets, Sets, enoughOf, cell, putAt, setsWith, inMessage, act, Ready, Ok}
+use Rattle.laws.proofs.Sets.{afterSend, afterReceive, afterDeliver}
 use Rattle.laws.proofs.Runs.{Square, Diamond, same-end}
 use Rattle.laws.proofs.Enough.{enough-grows}
 use Rattle.laws.proofs.Cells.{was-in, on-one}

@@ -16,9 +16,9 @@ use Rattle.group.proofs.Bounds.{controller-below}
 use Rattle.group.proofs.Kept.{fit-after}
 use Rattle.settler.specs.Candidates.{next}
 use Rattle.settler.specs.Settling.{onNext}
-use Rattle.laws.specs.Sets.{RecordSets, Sets, inMessage, act, Ok, afterSend, afterReceive, afterDeliver}
 use Rattle.laws.specs.Runs.{Settling}
 use Rattle.laws.specs.Settler.{chosen, turn, InTurn}
+use Rattle.laws.proofs.Sets.{RecordSets, Sets, inMessage, act, Ok, afterSend, afterReceive, afterDeliver}
 use Rattle.laws.proofs.Swap.{SettlingKind, sends, receives, delivers, detects, kind-of}
 use Rattle.laws.proofs.Steps.{setsOf, sets-after}
 use Rattle.laws.proofs.Allowing.{allowed-ok, Roomy, ok-allowed}

@@ -6,11 +6,11 @@ use Prim.Native.Nat.{ℕ}
 use lib.Dec.{eqb, ltb}
 use borrow.Author.Tests.{eq-eqb}
 use Rattle.group.specs.Place.{Place, Words, recordOf, members, count}
-use Rattle.group.specs.Layout.{Layout, words, inRecord}
+use Rattle.group.specs.Layout.{Layout, words, inRecord, PlaceIn}
 use Rattle.group.specs.Step.{Step, broadcast, send, receive, deliver, crash, detect, lose}
 use Rattle.group.specs.Writes.{freshRecord, writes}
 use Rattle.group.specs.Promises.{Allowed, after}
-use Rattle.group.proofs.Places.{Key, key, PlaceIn}
+use Rattle.group.proofs.Places.{Key, key}
 use Rattle.group.proofs.Reading.{later, words-after}
 use Rattle.group.proofs.WritesIn.{writes-in}
 use Rattle.laws.proofs.Names.{Aside, aside-append, record-aside, later-aside}

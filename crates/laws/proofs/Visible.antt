@@ -10,11 +10,11 @@ use borrow.Author.Tests.{lt-ltb, ltb-true}
 use Rattle.group.specs.Place.{Field, Place, Words, recordOf, Write, _≔_}
 use Rattle.group.specs.Place.{held, delivered, acked, unsent, inFlight}
 use Rattle.group.specs.Place.{members, mode, count, up, view, logLength, log, message}
-use Rattle.group.specs.Layout.{Layout, recordWidths, words, inRecord}
+use Rattle.group.specs.Layout.{Layout, recordWidths, words, inRecord, run, index, PlaceIn, FieldIn}
 use Rattle.group.specs.Step.{Step, broadcast, send, receive, deliver, crash, detect, lose}
 use Rattle.group.specs.Writes.{freshRecord, writes}
 use Rattle.group.specs.Promises.{Allowed, after}
-use Rattle.group.proofs.Places.{Key, key, run, index, samePlace, PlaceIn, FieldIn}
+use Rattle.group.proofs.Places.{Key, key, samePlace}
 use Rattle.group.proofs.Reading.{later, AllIn, words-after}
 use Rattle.group.proofs.Bounds.{controller-below, message-below, copy-below}
 use Rattle.group.proofs.Fitness.{both}

@@ -6,8 +6,8 @@ use native.Mathlib.Nat.{mul-add, mul-assoc, mul-one}
 use native.Mathlib.Omega.{arith}
 use lib.Dec.{eqb, ltb}
 use borrow.Author.Tests.{lt-ltb}
-use Rattle.laws.specs.Sets.{RecordSets, Sets, cell, newRecord}
-use Rattle.laws.specs.Sets.{afterSend, afterReceive, afterDeliver, afterLose}
+use Rattle.laws.proofs.Sets.{RecordSets, Sets, cell, newRecord}
+use Rattle.laws.proofs.Sets.{afterSend, afterReceive, afterDeliver, afterLose}
 use Rattle.laws.proofs.Cells.{on-one, on-cell}
 use Rattle.laws.proofs.Copies.{Copy, waiting, flying}
 use Rattle.laws.proofs.Keep.{Inv}

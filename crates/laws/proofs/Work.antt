@@ -10,9 +10,9 @@ use lib.Dec.{eqb, ltb}
 use lib.ListN.{length}
 use borrow.Author.Tests.{eq-eqb, ne-eqb, lt-ltb}
 use Rattle.group.specs.Step.{Step, broadcast, send, receive, deliver, crash, detect, lose}
-use Rattle.laws.specs.Sets.{RecordSets, Sets, newRecord, act, inMessage, openSets, Ok, settles}
-use Rattle.laws.specs.Sets.{afterSend, afterReceive, afterDeliver, afterLose}
-use Rattle.laws.specs.Runs.{Run, done, next, Settling, settlings, most}
+use Rattle.laws.specs.Runs.{Run, done, next, Settling, settlings, most, settles}
+use Rattle.laws.proofs.Sets.{RecordSets, Sets, newRecord, act, inMessage, openSets, Ok}
+use Rattle.laws.proofs.Sets.{afterSend, afterReceive, afterDeliver, afterLose}
 use Rattle.laws.proofs.Cells.{clash, on-one, on-cell}
 use Rattle.laws.proofs.Keep.{Inv, keep, open-inv, same-group}
 use Rattle.laws.proofs.Swap.{SettlingKind, sends, receives, delivers, detects, kind-of}

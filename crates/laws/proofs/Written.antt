@@ -10,9 +10,9 @@ use borrow.Author.Tests.{eq-eqb, ne-eqb, ltb-true, ltb-false}
 use Rattle.sets.specs.Set.{allBelow}
 use Rattle.group.specs.Place.{Field, Place, Record, Write, _≔_, message}
 use Rattle.group.specs.Place.{sender, stamp, value, held, delivered, acked, unsent, inFlight}
-use Rattle.group.specs.Layout.{Layout, fields, inRecord}
+use Rattle.group.specs.Layout.{Layout, fields, inRecord, run, index, FieldIn}
 use Rattle.group.specs.Writes.{fresh}
-use Rattle.group.proofs.Places.{Key, run, index, key, sameField, FieldIn}
+use Rattle.group.proofs.Places.{Key, key, sameField}
 use Rattle.group.proofs.Reading.{later}
 use Rattle.laws.proofs.Bridge.{laterIn}
 use Rattle.laws.proofs.Names.{record-aside, later-aside, stays, record-word}

@@ -7,13 +7,12 @@ use mathlib.Core.List.{List}
 use lib.ListN.{length}
 use Rattle.sets.specs.Set.{countBelow}
 use Rattle.group.specs.Place.{Place, members, mode, count, up, view, logLength, log, message}
-use Rattle.group.specs.Layout.{Layout, words}
+use Rattle.group.specs.Layout.{Layout, words, PlaceIn}
 use Rattle.group.specs.Fit.{isSize, isMode, allAck}
 use Rattle.group.specs.Opening.{opened}
 use Rattle.group.specs.Step.{Step}
 use Rattle.group.specs.Logs.{logOf}
 use Rattle.group.specs.Promises.{Allowed, after}
-use Rattle.group.proofs.Places.{PlaceIn}
 use Rattle.laws.specs.Runs.{Run, Ended, Settling}
 use Rattle.laws.specs.Logs.{occurs}
 

@@ -29,13 +29,11 @@ pub record Demand3 (L : Layout) (n : ℕ) (before : List Step) (b : List ℕ) : 
   pub bounded : (es : List Step) (x : List ℕ) → Run (Settling (Allowed L)) (after L) b es x
       → settlings before + length es ≤ most n (words L b count)
   -- "finishing the messages one after another": with a budget of that much the settler leaves none, taking detects
-  -- first
-  -- and then the messages in rising order
+  -- first and then the messages in rising order
   pub one-after-another : (d : ℕ) → most n (words L b count) ≤ d
       → Finished L b (chosen L d b) (settleOf L b d .bank) × InTurn 0 (chosen L d b)
   -- "Every order takes equally many steps and ends with the same sets as finishing the messages one after another;
-  -- only the
-  -- order inside the logs may differ.": any two orders, the settler's among them
+  -- only the order inside the logs may differ.": any two orders, the settler's among them
   pub same-end : (es fs : List Step) (x y : List ℕ) → Finished L b es x → Finished L b fs y
       → (length es ≡ length fs) × Alike L x y
   -- "At that end, in all-ack, or in majority-ack with more than half the controllers up, a message delivered by any

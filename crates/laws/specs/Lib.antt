@@ -1,4 +1,3 @@
-pub mod Sets
 pub mod Runs
 pub mod Logs
 pub mod History

@@ -1,10 +1,9 @@
 -- Runs: steps taken one after another, each allowed where it is taken, until none is left.
 use Prim.Native.Nat.{ℕ, _+_, _-_, _*_}
 use mathlib.Core.Path.{_≡_}
-use mathlib.Core.Bool.{true, cond}
+use mathlib.Core.Bool.{Bool, true, false, cond}
 use mathlib.Core.List.{List, [], _∷_}
-use Rattle.group.specs.Step.{Step}
-use Rattle.laws.specs.Sets.{settles}
+use Rattle.group.specs.Step.{Step, broadcast, send, receive, deliver, crash, detect, lose}
 
 -- a list of steps leads from a state to a state: `allows` says what a state allows, `act` what a step makes of it
 pub data Run {S E : Type 0} (allows : S → E → Type 0) (act : S → E → S) : S → List E → S → Type 0 where
@@ -14,6 +13,16 @@ pub data Run {S E : Type 0} (allows : S → E → Type 0) (act : S → E → S) 
 -- no step is left
 abbrev pub Ended : {S E : Type 0} → (S → E → Type 0) → S → Type 0
 Ended {S} {E} allows s = (e : E) → allows s e → ⊥
+
+-- sends, receipts, deliveries and detects settle a group
+abbrev pub settles : Step → Bool
+settles (broadcast who stamp value) = false
+settles (send from to m) = true
+settles (receive i from m) = true
+settles (deliver i m) = true
+settles (crash who) = false
+settles (detect i j) = true
+settles (lose from to m) = false
 
 -- of the steps that are allowed, those that settle
 abbrev pub Settling : {S : Type 0} → (S → Step → Type 0) → S → Step → Type 0

@@ -11,9 +11,9 @@ use Rattle.group.specs.Logs.{logOf}
 use Rattle.settler.specs.Settling.{Ending, settleOf}
 use Rattle.day.specs.Tallies.{tallyOf}
 
--- how many steps of the list were accepted and what refused the next; what the settler took, and whether a step is
--- left;
--- who holds and who has delivered message 0; each log; how many entries of controller 0's log are of day 0 and of day 1
+-- how many steps of the list were accepted and what refused the next; what the settler took, and whether no step is
+-- left; who holds and who has delivered message 0; each log; how many entries of controller 0's log are of day 0 and of
+-- day 1
 pub record Seen : Type 0 where
   pub accepted : ℕ
   pub refusal : ℕ

@@ -1,4 +1,5 @@
 -- A group as sets: who is up, whom each takes to be up, who holds each message, where its copies are. No word, no log.
+-- Only a means of proof: Steps.antt and Allowing.antt show that the group's own rules, read on sets, are these.
 use Prim.Native.Nat.{ℕ, _+_, _*_, _<_}
 use mathlib.Core.Path.{_≡_}
 use mathlib.Core.Bool.{Bool, true, false, cond, not, _&&_, _||_}
@@ -174,16 +175,6 @@ Ok room s (detect i j) =
     × ((s .mode ≡ allAck) × (s .up j ≡ false) × (s .view i j ≡ true))
 Ok room s (lose from to m) =
     Named s from to m × (s .message m .inFlight to from ≡ true) × ((s .up from && s .up to) ≡ false)
-
--- sends, receipts, deliveries and detects settle a group
-abbrev pub settles : Step → Bool
-settles (broadcast who stamp value) = false
-settles (send from to m) = true
-settles (receive i from m) = true
-settles (deliver i m) = true
-settles (crash who) = false
-settles (detect i j) = true
-settles (lose from to m) = false
 
 -- all-ack, or more than half of the controllers are up
 abbrev pub Quorate : Sets → Type 0
