@@ -45,7 +45,7 @@ static void check_stopped(void)
     struct ran ran = run_steps(bank, WORDS, twice, 4);
     must(ran.accepted == 2 && ran.refusal == 8, "a send twice stops the list after two steps with 8");
     must(bank[COUNT] == 1 && bank[UP] == 3, "the steps before it stay, the one after it is not done");
-    must(bank[RECORD] == 0 && bank[RECORD + 1] == 95 && bank[RECORD + 2] == 7, "the record has the broadcast's numbers");
+    must(bank[RECORD] == 0 && bank[RECORD + 1] == 95 && bank[RECORD + 2] == 7, "the record has the numbers");
     must(bank[RECORD + HELD] == 1 && bank[RECORD + UNSENT] == 1, "the sender holds it and has its own copy to send");
     must(bank[RECORD + FLIGHT + 1] == 1, "the copy to 1 is in flight from 0");
 }

@@ -1,8 +1,8 @@
 -- A list of records answers as its words do in the flat form, leaves no room for another answer, and is never ragged.
-use mathlib.Core.Path.{_≡_, refl, ap}
+use mathlib.Core.Path.{_≡_, refl, sym, ap, _∙_}
 use mathlib.Core.Bool.{Bool, true, false}
 use mathlib.Core.List.{List}
-use Prim.Native.Nat.{ℕ, _≤_}
+use Prim.Native.Nat.{ℕ}
 use native.Mathlib.Omega.{arith}
 use Rattle.group.specs.Layout.{paper}
 use Rattle.group.specs.Fit.{fit}
@@ -12,7 +12,7 @@ use Rattle.group.proofs.Runs.{run-unfit}
 use Rattle.lists.specs.declared.Step.{Step}
 use Rattle.lists.specs.Records.{flat, StepsPromise}
 use Rattle.lists.proofs.Runs.{records-begin}
-use Rattle.lists.proofs.Refused.{run-small}
+use Rattle.lists.proofs.Refused.{Whole, run-whole}
 
 -- on the same steps both forms give the same number of accepted steps, the same refusal and the same bank
 pub same-as-flat : (b : List ℕ) (ss : List Step) {n k r s : ℕ} {c d : List ℕ} → StepsPromise b ss n r c
@@ -25,9 +25,8 @@ steps-determined b ss e f = run-determined b (flat ss) e f
 
 -- 13 does not arise: a record is whole, and no step is refused by that number
 pub never-ragged : (b : List ℕ) (ss : List Step) {n r : ℕ} {c : List ℕ} → StepsPromise b ss n r c → r ≡ 13 → ⊥
-never-ragged b ss {r = r} e q =
-    omega (arith, ap (λ o. o .refusal) e, small (fit paper b) refl)
+never-ragged b ss {r = r} e q = whole (fit paper b) refl (sym (ap (λ o. o .refusal) e) ∙ q)
   where
-    small : (t : Bool) → fit paper b ≡ t → runOf paper b (flat ss) .refusal ≤ 10
-    small true f = rw (records-begin paper b ss f) (run-small paper 0 b (flat ss))
-    small false f = rw (run-unfit paper b (flat ss) f) (omega arith)
+    whole : (t : Bool) → fit paper b ≡ t → Whole (runOf paper b (flat ss) .refusal)
+    whole true f = rw (records-begin paper b ss f) (run-whole paper 0 b (flat ss))
+    whole false f = rw (run-unfit paper b (flat ss) f) (omega arith)

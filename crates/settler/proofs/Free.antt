@@ -15,7 +15,7 @@ use Rattle.group.specs.Layout.{Layout, paper, words, offset, recordAt, recordSi
 use Rattle.group.specs.Fit.{allAck}
 use Rattle.group.specs.Step.{Step, send, receive, deliver, detect}
 use Rattle.group.specs.Refusals.{Rule, _else_, firstBroken, rules, isUp, mayDeliver, copy as rules·copy}
-use Rattle.group.proofs.Rules.{Numbered, rules-numbered}
+use Rattle.group.proofs.Rules.{Numbered, not-zero, rules-numbered}
 use Rattle.settler.specs.Candidates.{free}
 use Rattle.settler.specs.Moves.{move, moveOf, copy, CopyKind}
 use Rattle.settler.proofs.First.{Decided}
@@ -31,7 +31,7 @@ hold-is (r ∷ rs) k = go (r .holds) (hold-is rs (k .1))
   where
     go : (t : Bool) → eqb (firstBroken rs) 0 ≡ hold rs → eqb (cond t (firstBroken rs) (r .number)) 0 ≡ (t && hold rs)
     go true h = h
-    go false h = ne-eqb (r .number) 0 (omega (arith, ltb→lt 0 (r .number) (k .0)))
+    go false h = ne-eqb (r .number) 0 (omega (arith, not-zero (r .number) (k .0)))
 
 module _ (L : Layout) (b : List ℕ) where
   free-holds : (s : Step) → free L b s ≡ hold (rules L (words L b) s)
