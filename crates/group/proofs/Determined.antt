@@ -1,8 +1,13 @@
 -- Each promise leaves no room: two answers and banks that it allows for the same input are equal.
 use Prim.Native.Nat.{ℕ}
 use mathlib.Core.Path.{_≡_, sym, ap, _∙_}
+use mathlib.Core.Bool.{Bool}
 use mathlib.Core.List.{List}
+use Rattle.sets.proofs.Tests.{one-value}
+use Rattle.group.specs.Layout.{paper}
+use Rattle.group.specs.Fit.{fit}
 use Rattle.group.specs.Opening.{Answer, answer}
+use Rattle.group.specs.Refusals.{enough}
 use Rattle.group.specs.Promises.{OpenPromise, RefusalPromise, StepPromise}
 use Rattle.group.specs.Lists.{RunPromise}
 use Rattle.group.specs.Logs.{LengthPromise, LogPromise}
@@ -17,7 +22,7 @@ open-determined b n k e f = one-answer e f
 
 pub refusal-determined : (b : List ℕ) (kind x y z : ℕ) {r s : ℕ} → RefusalPromise b kind x y z r
     → RefusalPromise b kind x y z s → r ≡ s
-refusal-determined b kind x y z e f = e ∙ sym f
+refusal-determined b kind x y z e f = one-value e f
 
 pub step-determined : (b : List ℕ) (kind x y z : ℕ) {r s : ℕ} {c d : List ℕ} → StepPromise b kind x y z r c
     → StepPromise b kind x y z s d → (r ≡ s) × (c ≡ d)
@@ -34,4 +39,11 @@ pub length-determined : (b : List ℕ) (who : ℕ) {r s n k : ℕ} → LengthPro
 length-determined b who e f = (e .0 ∙ sym (f .0), e .1 ∙ sym (f .1))
 
 pub log-determined : (b : List ℕ) (who : ℕ) {c d : List ℕ} → LogPromise b who c → LogPromise b who d → c ≡ d
-log-determined b who e f = e ∙ sym f
+log-determined b who e f = one-value e f
+
+pub fit-determined : (b : List ℕ) {t u : Bool} → t ≡ fit paper b → u ≡ fit paper b → t ≡ u
+fit-determined b e f = one-value e f
+
+pub enough-determined : (k n trusted received : ℕ) {t u : Bool} → t ≡ enough k n trusted received
+    → u ≡ enough k n trusted received → t ≡ u
+enough-determined k n trusted received e f = one-value e f

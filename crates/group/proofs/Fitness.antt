@@ -1,21 +1,18 @@
 -- The test of a bank and the facts that it stands for; a call that is accepted met a fit bank.
 use mathlib.Core.Path.{_≡_, refl, sym, ap, _∙_, subst}
-use mathlib.Core.Bool.{Bool, true, false, cond, _&&_, false≢true}
+use mathlib.Core.Bool.{Bool, true, false, cond, _&&_}
 use mathlib.Core.List.{List}
 use mathlib.Core.Option.{Option, none, some}
 use Prim.Native.Nat.{ℕ}
 use native.Mathlib.Omega.{arith}
 use borrow.Author.Tests.{eqb-true, leb-true, eq-eqb, ne-eqb, le-leb}
+use Rattle.sets.proofs.Tests.{both}
 use Rattle.group.specs.Layout.{Layout, words}
 use Rattle.group.specs.Fit.{Fit, fit}
 use Rattle.group.specs.Step.{Step, asked, unused}
 use Rattle.group.specs.Refusals.{refusal}
 use Rattle.group.specs.Promises.{Allowed, askedRefusal, refusalOf}
 use Rattle.group.proofs.Rules.{stop, free-step}
-
-pub both : (s t : Bool) → (s && t) ≡ true → (s ≡ true) × (t ≡ true)
-both true t e = (refl, e)
-both false t e = absurd (false≢true e)
 
 pub fit-facts : (L : Layout) (b : List ℕ) → fit L b ≡ true → Fit L b
 fit-facts L b e =

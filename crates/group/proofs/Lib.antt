@@ -4,6 +4,7 @@ pub mod Places
 pub mod Reading
 pub mod Lending
 pub mod Rules
+pub mod Lowest
 pub mod Deciding
 pub mod Fitness
 pub mod Bounds

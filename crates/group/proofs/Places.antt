@@ -9,6 +9,7 @@ use lib.Dec.{eqb}
 use lib.ListN.{getD, length}
 use lib.Arith.{digits-lt}
 use borrow.Author.Tests.{eq-eqb, ne-eqb, eqb-true}
+use Rattle.sets.proofs.Tests.{both}
 use Rattle.group.specs.Place.{Field, Place}
 use Rattle.group.specs.Place.{sender, stamp, value, held, delivered, acked, unsent, inFlight}
 use Rattle.group.specs.Place.{members, mode, count, up, view, logLength, log, message}
@@ -178,10 +179,6 @@ module _ (L : Layout) where
   is-eqb : (x y : ℕ) (t : Bool) → (x ≡ y → t ≡ true) → (t ≡ true → x ≡ y) → eqb x y ≡ t
   is-eqb x y true f g = eq-eqb x y (g refl)
   is-eqb x y false f g = ne-eqb x y (λ e. false≢true (f e))
-
-  both : (s t : Bool) → (s && t) ≡ true → (s ≡ true) × (t ≡ true)
-  both true t e = (refl, e)
-  both false t e = absurd (false≢true e)
 
   pub same-address : (p q : Place) → PlaceIn L p → PlaceIn L q → eqb (address L p) (address L q) ≡ samePlace p q
   unfolding SameKey

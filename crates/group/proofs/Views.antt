@@ -7,12 +7,12 @@ use native.Mathlib.Numerals.{add-one}
 use native.Mathlib.Omega.{arith}
 use lib.Dec.{leb}
 use borrow.Author.Tests.{leb-true}
+use Rattle.sets.proofs.Tests.{both}
 use Rattle.sets.specs.Set.{allBelow}
 use Rattle.group.specs.Place.{_≔_, view}
 use Rattle.group.specs.Layout.{Layout}
 use Rattle.group.specs.Fit.{isSize}
 use Rattle.group.specs.Opening.{views}
-use Rattle.group.proofs.Fitness.{both}
 
 pub size-range : (L : Layout) (n : ℕ) → isSize L n ≡ true → (1 ≤ n) × (n ≤ L .controllers)
 size-range L n e =

@@ -11,13 +11,13 @@ use native.Mathlib.Omega.{arith}
 use lib.Dec.{eqb}
 use lib.ListN.{getD}
 use borrow.Author.Tests.{eq-eqb, eqb-true}
+use Rattle.sets.proofs.Tests.{both}
 use Rattle.group.specs.Place.{Field, Place, Write, _≔_, view, message}
 use Rattle.group.specs.Place.{sender, stamp, value, held, delivered, acked, unsent, inFlight}
 use Rattle.group.specs.Layout.{Layout, upFrom, fields, inRecord, FieldIn, run, index}
 use Rattle.group.specs.Opening.{views}
 use Rattle.group.proofs.Places.{Key, key, samePlace}
 use Rattle.group.proofs.Reading.{later}
-use Rattle.group.proofs.Fitness.{both}
 
 -- two names of one place have one key
 pub one-key : (p q : Place) → samePlace p q ≡ true → key p ≡ key q

@@ -144,3 +144,8 @@ module _ (L : Layout) where
         let h = settler-run d b (fit-run L n k (r .sized) (r .known) (r .run)) in
         let q = settler-ends h (reached-inv L r) (omega (arith, work-within-most)) in
         (q, record { run = h .run; ended = h .quiet q })
+
+-- "that is 17,136 for N = 16 and c = 32"
+pub full-bank : most 16 32 ≡ 17136
+unfolding most
+full-bank = refl

@@ -7,6 +7,7 @@ use native.Mathlib.Omega.{arith}
 use lib.Dec.{ltb}
 use lib.ListN.{getD}
 use borrow.Author.Tests.{lt-ltb, ltb-true}
+use Rattle.sets.proofs.Tests.{both}
 use Rattle.group.specs.Place.{Field, Place, Words, recordOf, Write, _≔_}
 use Rattle.group.specs.Place.{held, delivered, acked, unsent, inFlight}
 use Rattle.group.specs.Place.{members, mode, count, up, view, logLength, log, message}
@@ -17,7 +18,6 @@ use Rattle.group.specs.Promises.{Allowed, after}
 use Rattle.group.proofs.Places.{Key, key, samePlace}
 use Rattle.group.proofs.Reading.{later, AllIn, words-after}
 use Rattle.group.proofs.Bounds.{controller-below, message-below, copy-below}
-use Rattle.group.proofs.Fitness.{both}
 use Rattle.group.proofs.WritesIn.{writes-in}
 use Rattle.laws.proofs.Names.{one-key}
 

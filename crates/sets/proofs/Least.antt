@@ -1,6 +1,6 @@
 -- The least number that passes a test, and the lowest member of a set.
 use mathlib.Core.Path.{_≡_, refl, sym, ap, fun-ext, _∙_}
-use mathlib.Core.Bool.{Bool, true, false, cond, not, _&&_, true≢false, false≢true}
+use mathlib.Core.Bool.{Bool, true, false, cond, not, _&&_, true≢false}
 use Prim.Native.Nat.{ℕ, zero, suc, _+_, _-_, _*_, _/_, _%_, _^_, _≤_, _<_}
 use native.Mathlib.Nat.{mod-eq-of-lt, mod-le, lt-of-le-of-lt}
 use native.Mathlib.Numerals.{one-add}
@@ -11,6 +11,7 @@ use lib.Bits.{bitAnd, and-le-l}
 use lib.Count.{trailingZeros, under}
 use borrow.Author.Tests.{eqb-true, eqb-false, eq-eqb, ltb-true, ltb-false, lt-ltb, not-true}
 use Rattle.sets.specs.Set.{has, cut, every, setOf, less, leastFrom, lowest}
+use Rattle.sets.proofs.Tests.{both}
 use Rattle.sets.proofs.Digits.{digit-cases, has-low, has-half, has-less}
 use Rattle.sets.proofs.Members.{has-cut}
 use Rattle.sets.proofs.Counts.{cut-none, every-is, every-at}
@@ -123,10 +124,6 @@ module _ (w n : ℕ) (small : cut w n < 2 ^ 16) (some : cut w n ≡ 0 → ⊥) w
       both _ _
       (sym (has-cut w n (lowest (cut w n) 16))
       ∙ least-is (has (cut w n)) 0 16 .passes (omega (arith, lowest-inside)))
-    where
-      both : (s t : Bool) → (s && t) ≡ true → (s ≡ true) × (t ≡ true)
-      both true t e = (refl, e)
-      both false t e = absurd (false≢true e)
 
   -- a set that has a member below n has its lowest there, and it is the lowest of the whole word
   pub lowest-cut : lowest (cut w n) 16 ≡ lowest w n

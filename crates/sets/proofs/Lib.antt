@@ -1,4 +1,5 @@
 -- Laws of sets that belong to no one function.
+pub mod Tests
 mod Digits
 mod Words
 pub mod Members
