@@ -17,11 +17,15 @@ install_packages() { # install_packages PACKAGE..
     { apt-get update -q && DEBIAN_FRONTEND=noninteractive apt-get install -qy --no-install-recommends "$@"; } >&2
 }
 
+choose_own_tools() { # as choose_tools, for programs of this machine's own code
+    have cc || install_packages gcc libc6-dev
+    compile=(cc)
+    emulate=()
+}
+
 choose_tools() { # sets compile, the words of the compiler, and emulate, those before a program that it made
     if native; then
-        have cc || install_packages gcc libc6-dev
-        compile=(cc)
-        emulate=()
+        choose_own_tools
     else
         have x86_64-linux-gnu-gcc qemu-x86_64-static ||
             install_packages gcc-x86-64-linux-gnu libc6-dev-amd64-cross qemu-user-static
