@@ -1,6 +1,6 @@
-# The proved crates as code that this machine runs itself, for what an emulator cannot do: valgrind, and times. rt compiles
-# for x86-64 alone, so elsewhere it runs on a copy of its kit, all links but for the compiler, which keeps the module that
-# it is given; the same module is then compiled for this processor. Sourced after tests/lib.sh.
+# The proved crates as code that this machine runs itself, for what an emulator cannot do: valgrind, and times. rt
+# compiles for x86-64 alone, so elsewhere it runs on a copy of its kit, all links but for the compiler, which keeps the
+# module that it is given; the same module is then compiled for this processor. Sourced after tests/lib.sh.
 
 if native; then
     libraries=target/staticlib programs=target/bin

@@ -1,4 +1,5 @@
-//! Links libloargwen.a, from the folder named by LOARGWEN_LIB, when the feature `archive` is on.
+//! Links libloargwen.a when the feature `archive` is on and liblists.a when `lists` is, from the folder named by
+//! LOARGWEN_LIB.
 
 use std::env;
 use std::path::Path;
@@ -6,14 +7,18 @@ use std::path::Path;
 fn main() {
     println!("cargo:rerun-if-env-changed=LOARGWEN_LIB");
     println!("cargo:rerun-if-changed=build.rs");
-    if env::var_os("CARGO_FEATURE_ARCHIVE").is_none() {
-        return;
+    for (feature, library) in [("ARCHIVE", "loargwen"), ("LISTS", "lists")] {
+        if env::var_os(format!("CARGO_FEATURE_{feature}")).is_some() {
+            link(library);
+        }
     }
-    let folder =
-        env::var("LOARGWEN_LIB").expect("LOARGWEN_LIB must name the folder of libloargwen.a");
-    let archive = Path::new(&folder).join("libloargwen.a");
+}
+
+fn link(library: &str) {
+    let folder = env::var("LOARGWEN_LIB").expect("LOARGWEN_LIB must name the archives' folder");
+    let archive = Path::new(&folder).join(format!("lib{library}.a"));
     assert!(archive.is_file(), "no archive at {}", archive.display());
     println!("cargo:rerun-if-changed={}", archive.display());
     println!("cargo:rustc-link-search=native={folder}");
-    println!("cargo:rustc-link-lib=static=loargwen");
+    println!("cargo:rustc-link-lib=static={library}");
 }

@@ -1,7 +1,7 @@
 /*
- * short CALL MISSING: lends the archive a bank that has so many bytes fewer than it says, so that the call of this number
- * (1 open, 2 step, 3 settle, 4 tally) reaches past the allocation. Under valgrind it must be found, and with 0 missing
- * nothing may be.
+ * short CALL MISSING: lends the archive a bank that has so many bytes fewer than it says, so that the call of this
+ * number (1 open, 2 step, 3 settle, 4 tally) reaches past the allocation. Under valgrind that must be found, and with 0
+ * missing nothing may be.
  */
 #include <stdio.h>
 #include <stdlib.h>

@@ -9,13 +9,13 @@ cargo_host() { # cargo_host COMMAND FLAG..: in host/rust
     cargo "$command" --manifest-path host/rust/Cargo.toml --release --offline --locked -j2 "$@"
 }
 
-build_linked() { # build_linked PROGRAM: with the archives of this machine's own code
-    LOARGWEN_LIB=$PWD/$libraries cargo_host build --features archive --bin "$1"
+build_linked() { # build_linked PROGRAM FEATURE: with archives of this machine's own code
+    LOARGWEN_LIB=$PWD/$libraries cargo_host build --features "$2" --bin "$1"
 }
 
 build_compare() { # sets reach, the flags by which compare reaches the archive
     if native; then
-        build_linked compare
+        build_linked compare archive
         reach=()
     else
         cargo_host build --bin compare

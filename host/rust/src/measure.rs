@@ -1,7 +1,16 @@
-//! Two things timed in turn, round by round: medians, the ratio and its spread.
+//! Two things timed in turn, round by round: medians, their ratio and the spread of the rounds' ratios.
 
 use std::fmt;
 use std::time::Duration;
+
+/// How often two things are timed, and how many calls each time covers.
+#[derive(Clone, Copy, Debug)]
+pub struct Times {
+    /// Rounds that count.
+    pub rounds: usize,
+    /// Calls in a round.
+    pub pieces: usize,
+}
 
 /// The times of two things, a pair a round.
 #[derive(Clone, Debug)]
@@ -9,28 +18,29 @@ pub struct Row {
     name: String,
     ours: Vec<f64>,
     plain: Vec<f64>,
+    target: Option<f64>,
 }
 
 impl Row {
     /// Times both in turn, the order changing each round, after one round that does not count.
     ///
-    /// Each closure hands back the time it took; `pieces` is how many calls that time covers.
+    /// Each closure hands back the time it took.
     pub fn measure(
         name: &str,
-        rounds: usize,
-        pieces: usize,
+        times: Times,
         mut ours: impl FnMut() -> Duration,
         mut plain: impl FnMut() -> Duration,
     ) -> Row {
-        let each = |time: Duration| time.as_secs_f64() / pieces as f64;
+        let each = |time: Duration| time.as_secs_f64() / times.pieces as f64;
         let mut row = Row {
             name: name.to_string(),
             ours: Vec::new(),
             plain: Vec::new(),
+            target: None,
         };
         ours();
         plain();
-        for round in 0..rounds {
+        for round in 0..times.rounds {
             if round % 2 == 0 {
                 row.ours.push(each(ours()));
                 row.plain.push(each(plain()));
@@ -40,6 +50,14 @@ impl Row {
             }
         }
         row
+    }
+
+    /// The row with the ratio that it should not exceed.
+    pub fn at_most(self, target: f64) -> Row {
+        Row {
+            target: Some(target),
+            ..self
+        }
     }
 
     /// The ratio of ours to plain in each round, the smallest first.
@@ -57,8 +75,8 @@ impl Row {
     /// The heading under which rows stand.
     pub fn heading() -> String {
         format!(
-            "{:<44} {:>11} {:>11} {:>7}  {:<15} {:>6}",
-            "", "ours", "plain Rust", "ratio", "spread 10-90 %", "rounds"
+            "{:<44} {:>11} {:>11} {:>7}  {:<15} {:>6} {:>7}",
+            "", "ours", "plain Rust", "ratio", "spread 10-90 %", "rounds", "target"
         )
     }
 }
@@ -96,15 +114,19 @@ impl fmt::Display for Row {
             quantile(&ratios, 0.1),
             quantile(&ratios, 0.9)
         );
+        let target = self
+            .target
+            .map_or(String::new(), |most| format!("{most:.1}"));
         write!(
             f,
-            "{:<44} {:>11} {:>11} {:>7.2}  {:<15} {:>6}",
+            "{:<44} {:>11} {:>11} {:>7.2}  {:<15} {:>6} {:>7}",
             self.name,
             time(ours),
             time(plain),
-            quantile(&ratios, 0.5),
+            ours / plain,
             spread,
-            ratios.len()
+            ratios.len(),
+            target
         )
     }
 }

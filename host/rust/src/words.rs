@@ -72,6 +72,20 @@ pub fn step(bank: &mut [u16], [kind, a, b, c]: [u16; 4]) -> u16 {
     }
 }
 
+/// Takes steps in order up to the first refusal: how many were accepted, and the refusal.
+pub fn run(bank: &mut [u16], steps: &[[u16; 4]]) -> (usize, u16) {
+    if fit_mut(bank).is_none() {
+        return (0, refusal::UNFIT);
+    }
+    for (accepted, &four) in steps.iter().enumerate() {
+        let refusal = step(bank, four);
+        if refusal != refusal::DONE {
+            return (accepted, refusal);
+        }
+    }
+    (steps.len(), refusal::DONE)
+}
+
 fn act(bank: &mut Words, kind: u16, a: u16, b: u16, c: u16) -> u16 {
     match kind {
         1 => broadcast(bank, a, b, c),

@@ -4,7 +4,7 @@ use std::time::Duration;
 
 use loargwen_host::args::Args;
 use loargwen_host::figures::Figures;
-use loargwen_host::measure::{time, Row};
+use loargwen_host::measure::{time, Row, Times};
 use loargwen_host::plant::Plant;
 use loargwen_host::random::Random;
 
@@ -65,11 +65,16 @@ fn rows_show_medians_and_ratios() {
         rounds += 1;
         Duration::from_micros(20 * rounds)
     };
-    let row = Row::measure("a row", 5, 10, ours, || Duration::from_micros(40));
+    let times = Times {
+        rounds: 5,
+        pieces: 10,
+    };
+    let row = Row::measure("a row", times, ours, || Duration::from_micros(40));
     let (ours, plain) = row.medians();
     assert!((ours - 8e-6).abs() < 1e-9 && (plain - 4e-6).abs() < 1e-9);
     let text = row.to_string();
     assert!(text.contains("8.00 us") && text.contains("4.00 us") && text.contains("2.00"));
+    assert!(!text.ends_with("1.5") && row.at_most(1.5).to_string().ends_with("1.5"));
     assert_eq!(time(1.5e-8), "15.0 ns");
     assert_eq!(time(2.5e-2), "25.00 ms");
 }

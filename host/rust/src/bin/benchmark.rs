@@ -1,7 +1,8 @@
-//! Ratios of the archive, through the C face, to the plain version, on the same banks in one process.
+//! Ratios of the archives to the plain version, on the same banks in one process, and of the bench to a plain one.
 
 use std::fs::File;
 use std::hint::black_box;
+use std::io;
 use std::path::{Path, PathBuf};
 use std::process::{Command, ExitCode, Stdio};
 use std::time::{Duration, Instant};
@@ -11,18 +12,22 @@ use loargwen_host::bank::Bank;
 use loargwen_host::contest::{Calls, Plain};
 use loargwen_host::face::Archive;
 use loargwen_host::layout::BYTES;
-use loargwen_host::measure::{time, Row};
+use loargwen_host::measure::{Row, Times};
 use loargwen_host::random::Random;
-use loargwen_host::{banks, files, words};
+use loargwen_host::refusal::DONE;
+use loargwen_host::words::Words;
+use loargwen_host::{banks, files, records, words};
 
 const STEPS: usize = 4_000;
-const PROCESSES: usize = 10;
+const PROCESSES: usize = 501;
+const ROUNDS: usize = 101;
 const NOTE: &str = "\
 cleared first: nothing on the machine; both sides get a fresh copy of the same bank before each
 timed piece, outside the timing, and one round that does not count. Rounds alternate which side
 goes first. The plain settler searches from the start for each step, candidate by candidate.
-'on words' keeps the plain bank as words; 'on bytes' has the plain version turn the same 4,488
-bytes into words and back for each call. One step through Rattle words is not measured here.";
+'through words': both sides keep the bank as words, ours walks a list of step records, accepted
+ones only. 'C face': ours gets bytes; 'plain on bytes' turns the same 4,488 bytes into words and
+back for each call, as ours does, 'plain on words' has them as words already.";
 
 fn timed<T>(work: impl FnOnce() -> T) -> Duration {
     let began = Instant::now();
@@ -57,23 +62,20 @@ fn run_of_steps() -> Vec<[u16; 4]> {
         .collect()
 }
 
+fn words_of(bytes: &[u8]) -> Words {
+    words::from_bytes(bytes).expect("a whole bank")
+}
+
 fn settle_row(name: &str, bytes: &[u8], rounds: usize) -> Row {
     let mut ours = bytes.to_vec();
     let mut plain = bytes.to_vec();
-    let answers = (
-        Archive.settle(&mut ours, u16::MAX),
-        Plain.settle(&mut plain, u16::MAX),
-    );
-    assert!(
-        answers.0 == answers.1 && ours == plain,
-        "the two settlers differ"
-    );
-    let start = words::from_bytes(bytes).unwrap_or([0; BYTES / 2]);
-    let name = format!("{name}, {} steps", answers.0.steps);
+    let answer = Archive.settle(&mut ours, u16::MAX);
+    assert_eq!(answer, Plain.settle(&mut plain, u16::MAX));
+    assert!(ours == plain, "the two settlers leave different banks");
+    let start = words_of(bytes);
     Row::measure(
-        &name,
-        rounds,
-        1,
+        &format!("settling, {name}, {} steps", answer.steps),
+        Times { rounds, pieces: 1 },
         || {
             ours.copy_from_slice(bytes);
             timed(|| Archive.settle(black_box(&mut ours), u16::MAX))
@@ -83,6 +85,41 @@ fn settle_row(name: &str, bytes: &[u8], rounds: usize) -> Row {
             timed(|| words::settle(black_box(&mut bank), u16::MAX))
         },
     )
+    .at_most(1.0)
+}
+
+/// The steps of a run that are accepted: a list stops at any other.
+fn accepted(bytes: &[u8], steps: &[[u16; 4]]) -> Vec<[u16; 4]> {
+    let mut bank = words_of(bytes);
+    let taken = steps
+        .iter()
+        .filter(|&&step| words::step(&mut bank, step) == DONE);
+    taken.copied().collect()
+}
+
+fn words_row(bytes: &[u8], steps: &[[u16; 4]]) -> Row {
+    let steps = accepted(bytes, steps);
+    let start = words_of(bytes);
+    let (mut ours, mut plain) = (start, start);
+    assert_eq!(records::run(&mut ours, &steps), (steps.len(), DONE));
+    assert_eq!(words::run(&mut plain, &steps), (steps.len(), DONE));
+    assert!(ours == plain, "the two lists leave different banks");
+    Row::measure(
+        &format!("one step through words, of {}", steps.len()),
+        Times {
+            rounds: ROUNDS,
+            pieces: steps.len(),
+        },
+        || {
+            let mut bank = start;
+            timed(|| records::run(black_box(&mut bank), black_box(&steps)))
+        },
+        || {
+            let mut bank = start;
+            timed(|| words::run(black_box(&mut bank), black_box(&steps)))
+        },
+    )
+    .at_most(1.5)
 }
 
 /// Applies all steps to a fresh copy of the bank's bytes.
@@ -99,7 +136,7 @@ fn step_rows() -> Vec<Row> {
     let steps = run_of_steps();
     let mut bytes = vec![0; BYTES];
     Archive.open(&mut bytes, 16, 1);
-    let start = words::from_bytes(&bytes).unwrap_or([0; BYTES / 2]);
+    let start = words_of(&bytes);
     let on_words = || {
         let mut bank = start;
         timed(|| {
@@ -110,21 +147,14 @@ fn step_rows() -> Vec<Row> {
     };
     let ours = || step_all(&Archive, &bytes, &steps);
     let on_bytes = || step_all(&Plain, &bytes, &steps);
+    let times = Times {
+        rounds: ROUNDS,
+        pieces: STEPS,
+    };
     vec![
-        Row::measure(
-            "one step, C face; plain on words",
-            101,
-            STEPS,
-            ours,
-            on_words,
-        ),
-        Row::measure(
-            "one step, C face; plain on bytes",
-            101,
-            STEPS,
-            ours,
-            on_bytes,
-        ),
+        words_row(&bytes, &steps),
+        Row::measure("one step, C face; plain on bytes", times, ours, on_bytes),
+        Row::measure("one step, C face; plain on words", times, ours, on_words),
     ]
 }
 
@@ -142,98 +172,103 @@ fn tally_all(tally: impl Fn(u16, u16) -> Day) -> Duration {
 fn tally_rows() -> Vec<Row> {
     let mut bytes = full_bank(1);
     Plain.settle(&mut bytes, u16::MAX);
-    let bank = words::from_bytes(&bytes).unwrap_or([0; BYTES / 2]);
+    let bank = words_of(&bytes);
     let ours = || tally_all(|who, day| Archive.tally(black_box(&bytes), who, day));
     let on_words = || tally_all(|who, day| words::tally(black_box(&bank), who, day));
     let on_bytes = || tally_all(|who, day| Plain.tally(black_box(&bytes), who, day));
+    let times = Times {
+        rounds: ROUNDS,
+        pieces: 640,
+    };
     vec![
-        Row::measure(
-            "the tally, 32 entries; plain on words",
-            101,
-            640,
-            ours,
-            on_words,
-        ),
-        Row::measure(
-            "the tally, 32 entries; plain on bytes",
-            101,
-            640,
-            ours,
-            on_bytes,
-        ),
+        Row::measure("the tally, C face; plain on bytes", times, ours, on_bytes).at_most(1.5),
+        Row::measure("the tally, C face; plain on words", times, ours, on_words),
     ]
 }
 
-/// The time a program takes on a file, ten times over, start and end included.
-fn processes(program: &Path, input: &Path) -> Duration {
-    timed(|| (0..PROCESSES).for_each(|_| process(program, input)))
-}
-
-fn process(program: &Path, input: &Path) {
-    let file = File::open(input).expect("the file just written opens");
+/// What a program prints for a file.
+fn process(program: &Path, input: &Input) -> Vec<u8> {
+    let file = File::open(&input.0).expect("the file just written opens");
     let output = Command::new(program)
         .stdin(file)
         .stdout(Stdio::piped())
         .output()
         .expect("the program runs");
-    black_box(output.stdout);
+    output.stdout
 }
 
-/// The bench against the plain bench, each as a process, on one file.
-fn file_row(name: &str, bench: &Path, input: &[u8]) -> std::io::Result<Row> {
-    let folder = std::env::temp_dir();
-    let path = folder.join(format!("loargwen-benchmark-{}", std::process::id()));
-    std::fs::write(&path, input)?;
-    let plain: PathBuf = std::env::current_exe()?.with_file_name("plain");
-    let row = Row::measure(
-        name,
-        31,
-        PROCESSES,
-        || processes(bench, &path),
-        || processes(&plain, &path),
-    );
-    std::fs::remove_file(&path)?;
-    Ok(row)
+/// A file of the system's temporary folder, removed at the end.
+struct Input(PathBuf);
+
+impl Input {
+    fn new(name: &str, bytes: &[u8]) -> io::Result<Input> {
+        let name = format!("loargwen-benchmark-{}-{name}", std::process::id());
+        let path = std::env::temp_dir().join(name);
+        std::fs::write(&path, bytes)?;
+        Ok(Input(path))
+    }
 }
 
-fn file_rows(bench: &Path) -> std::io::Result<()> {
-    let full = files::full_of_steps();
-    let one = files::record(&[16, 3, 1]);
-    let full = file_row("a bench file of 65,536 bytes, as processes", bench, &full)?;
-    let one = file_row("a bench file of 8 bytes, as processes", bench, &one)?;
-    println!("{full}\n{one}");
-    let ((ours, plain), (our_start, plain_start)) = (full.medians(), one.medians());
-    let (ours, plain) = (ours - our_start, plain - plain_start);
-    println!(
-        "{:<44} {:>11} {:>11} {:>7.2}  (the two medians' difference)",
-        "the long file less the short one",
-        time(ours),
-        time(plain),
-        ours / plain
-    );
-    Ok(())
+impl Drop for Input {
+    fn drop(&mut self) {
+        let _ = std::fs::remove_file(&self.0);
+    }
+}
+
+/// The bench against the plain bench, each as a process: on a full file, on an empty group, and what the first takes
+/// beyond the second, which is neither program's start.
+fn file_rows(bench: &Path) -> io::Result<[Row; 3]> {
+    let full = Input::new("full", &files::full_of_steps())?;
+    let bare = Input::new("bare", &files::record(&[16, 3, 1]))?;
+    let plain = std::env::current_exe()?.with_file_name("plain");
+    for input in [&full, &bare] {
+        assert_eq!(process(bench, input), process(&plain, input));
+    }
+    let times = Times {
+        rounds: PROCESSES,
+        pieces: 1,
+    };
+    let row = |name, input| {
+        let time = |program: &Path| timed(|| process(program, input));
+        Row::measure(name, times, || time(bench), || time(&plain))
+    };
+    let beyond = |program: &Path| {
+        let start = timed(|| process(program, &bare));
+        timed(|| process(program, &full)).saturating_sub(start)
+    };
+    let name = "the long file less the short one";
+    Ok([
+        row("a bench file of 65,536 bytes, process", &full).at_most(1.5),
+        row("a bench file of 8 bytes, process", &bare),
+        Row::measure(name, times, || beyond(bench), || beyond(&plain)).at_most(1.5),
+    ])
+}
+
+fn show(rows: &[Row]) {
+    rows.iter().for_each(|row| println!("{row}"));
 }
 
 fn main() -> ExitCode {
     println!("{NOTE}\n\n{}", Row::heading());
-    step_rows().iter().for_each(|row| println!("{row}"));
-    println!(
-        "{}",
-        settle_row("settling, opened all-ack", &full_bank(1), 9)
-    );
-    println!(
-        "{}",
-        settle_row("settling, opened majority", &full_bank(2), 9)
-    );
+    show(&step_rows());
     let spoilt = banks::spoilt_of(&mut Random::new(8, 1), 16, 1, 32);
-    println!("{}", settle_row("settling, spoilt all-ack", &spoilt, 9));
-    tally_rows().iter().for_each(|row| println!("{row}"));
+    for (name, bank) in [
+        ("opened all-ack", full_bank(1)),
+        ("opened majority", full_bank(2)),
+        ("spoilt all-ack", spoilt),
+    ] {
+        show(&[settle_row(name, &bank, 9)]);
+    }
+    show(&tally_rows());
     let Some(bench) = std::env::args_os().nth(1) else {
         println!("no bench program named: the bench file is left out");
         return ExitCode::SUCCESS;
     };
     match file_rows(Path::new(&bench)) {
-        Ok(()) => ExitCode::SUCCESS,
+        Ok(rows) => {
+            show(&rows);
+            ExitCode::SUCCESS
+        }
         Err(error) => {
             eprintln!("{error}");
             ExitCode::FAILURE
