@@ -42,10 +42,10 @@ compile_kept() { # compile_kept OBJECT FLAG..: with the flags that rattle gives,
     local object=$1 clang=$installed/$compiler
     shift
     mkdir -p "$libraries"
-    "$clang" -x ir "$kit/module.bc" -Xclang -disable-llvm-passes -Wno-override-module -S -emit-llvm -o - |
-        sed -e '/^target /d' -e 's/ "target-cpu"="x86-64"//' |
-        "$clang" -x ir - -Werror -Wno-override-module -O3 -ffunction-sections -fdata-sections \
-            -mllvm -trap-unreachable -mllvm -no-trap-after-noreturn "$@" -c -o "$object"
+    "$clang" -x ir "$kit/module.bc" -Xclang -disable-llvm-passes -Wno-override-module -S -emit-llvm -o "$kit/module.ll"
+    sed -i -e '/^target /d' -e 's/ "target-cpu"="x86-64"//' "$kit/module.ll"
+    "$clang" -x ir "$kit/module.ll" -Werror -Wno-override-module -O3 -ffunction-sections -fdata-sections \
+        -mllvm -trap-unreachable -mllvm -no-trap-after-noreturn "$@" -c -o "$object"
 }
 
 native_archive() { # native_archive NAME: $libraries/libNAME.a, beside the x86-64 archive where rt leaves it

@@ -5,7 +5,7 @@ use std::fmt::Debug;
 use crate::answer::{Day, Settled};
 use crate::bank::Bank;
 use crate::figures::Figures;
-use crate::layout;
+use crate::layout::{self, WORDS};
 use crate::plant::Plant;
 use crate::random::Random;
 use crate::refusal::{DONE, UNFIT};
@@ -27,29 +27,48 @@ pub trait Calls {
 /// The plain version, through bytes.
 pub struct Plain;
 
-/// Makes a call on the words of a bank and writes them back; `None` when the length is wrong.
-fn through<T>(bank: &mut [u8], call: impl FnOnce(&mut [u16]) -> T) -> Option<T> {
-    let mut words = words::from_bytes(bank)?;
-    let answer = call(&mut words);
-    words::to_bytes(&words, bank);
+/// Makes a call, which gives its refusal first, on the words of a bank and writes them back if it was not refused;
+/// `None` when the length is wrong.
+fn through<T>(bank: &mut [u8], call: impl FnOnce(&mut [u16]) -> (u16, T)) -> Option<T> {
+    let mut words = [0; WORDS];
+    if !words::load(&mut words, bank) {
+        return None;
+    }
+    let (refusal, answer) = call(&mut words);
+    if refusal == DONE {
+        words::to_bytes(&words, bank);
+    }
     Some(answer)
+}
+
+/// The pair that `through` wants of a call that answers its refusal alone.
+fn twice(refusal: u16) -> (u16, u16) {
+    (refusal, refusal)
 }
 
 impl Calls for Plain {
     fn open(&self, bank: &mut [u8], n: u16, mode: u16) -> u16 {
-        through(bank, |words| words::open(words, n, mode)).unwrap_or(UNFIT)
+        through(bank, |words| twice(words::open(words, n, mode))).unwrap_or(UNFIT)
     }
 
     fn step(&self, bank: &mut [u8], step: [u16; 4]) -> u16 {
-        through(bank, |words| words::step(words, step)).unwrap_or(UNFIT)
+        through(bank, |words| twice(words::step(words, step))).unwrap_or(UNFIT)
     }
 
     fn settle(&self, bank: &mut [u8], budget: u16) -> Settled {
-        through(bank, |words| words::settle(words, budget)).unwrap_or(Settled::refused(UNFIT))
+        let settled = through(bank, |words| {
+            let settled = words::settle(words, budget);
+            (settled.refusal, settled)
+        });
+        settled.unwrap_or(Settled::refused(UNFIT))
     }
 
     fn tally(&self, bank: &[u8], who: u16, day: u16) -> Day {
-        words::from_bytes(bank).map_or(Day::refused(UNFIT), |words| words::tally(&words, who, day))
+        let mut words = [0; WORDS];
+        if !words::load(&mut words, bank) {
+            return Day::refused(UNFIT);
+        }
+        words::tally(&words, who, day)
     }
 }
 

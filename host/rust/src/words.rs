@@ -360,16 +360,15 @@ pub fn tally(bank: &[u16], who: u16, day: u16) -> Day {
     answer
 }
 
-/// The bank that 4,488 bytes hold, low byte first.
-pub fn from_bytes(bytes: &[u8]) -> Option<Words> {
+/// Fills a bank from 4,488 bytes, low byte first; whether there are so many.
+pub fn load(bank: &mut Words, bytes: &[u8]) -> bool {
     if bytes.len() != BYTES {
-        return None;
+        return false;
     }
-    let mut bank = [0; WORDS];
     for (word, pair) in bank.iter_mut().zip(bytes.chunks_exact(2)) {
         *word = u16::from_le_bytes([pair[0], pair[1]]);
     }
-    Some(bank)
+    true
 }
 
 /// Writes a bank as bytes, low byte first.

@@ -11,7 +11,7 @@ use loargwen_host::answer::Day;
 use loargwen_host::bank::Bank;
 use loargwen_host::contest::{Calls, Plain};
 use loargwen_host::face::Archive;
-use loargwen_host::layout::BYTES;
+use loargwen_host::layout::{BYTES, WORDS};
 use loargwen_host::measure::{Row, Times};
 use loargwen_host::random::Random;
 use loargwen_host::refusal::DONE;
@@ -45,7 +45,7 @@ fn full_bank(mode: u16) -> Vec<u8> {
     bank.bytes().to_vec()
 }
 
-/// Four thousand steps of a run of sixteen, most of them accepted.
+/// Four thousand steps of a run of sixteen, accepted and refused ones.
 fn run_of_steps() -> Vec<[u16; 4]> {
     let mut bank = Bank::new(&[0; BYTES]);
     let mut random = Random::new(8, 8);
@@ -63,7 +63,9 @@ fn run_of_steps() -> Vec<[u16; 4]> {
 }
 
 fn words_of(bytes: &[u8]) -> Words {
-    words::from_bytes(bytes).expect("a whole bank")
+    let mut bank = [0; WORDS];
+    assert!(words::load(&mut bank, bytes), "not a bank's bytes");
+    bank
 }
 
 fn settle_row(name: &str, bytes: &[u8], rounds: usize) -> Row {
