@@ -15,3 +15,4 @@ pub mod Kept
 pub mod Runs
 pub mod Asking
 pub mod Determined
+pub mod Above

@@ -9,3 +9,4 @@ pub mod Writes
 pub mod Promises
 pub mod Lists
 pub mod Logs
+pub mod Above

@@ -1,0 +1,155 @@
+-- Set bits of N and above are never changed, save by a broadcast in its record, and never read.
+use mathlib.Core.Path.{_≡_, refl, sym, ap, ap₂, subst, _∙_}
+use mathlib.Core.Bool.{Bool, true, false, cond, not, _&&_, _||_, false≢true, true≢false, or-false, and-true}
+use mathlib.Core.List.{List, [], _∷_, _++_, map}
+use Prim.Native.Nat.{ℕ, _+_, _≤_, _<_}
+use native.Mathlib.Omega.{arith}
+use lib.Dec.{eqb, ltb}
+use lib.ListN.{getD}
+use borrow.Author.Tests.{eq-eqb, ne-eqb, eqb-true, ltb-true, le-ltb}
+use Rattle.sets.specs.Set.{has, with, without, withAll}
+use Rattle.sets.proofs.Members.{has-with, has-without, has-with-all}
+use Rattle.sets.proofs.Tests.{both}
+use Rattle.group.specs.Place.{Field, Place, Words, Write, _≔_}
+use Rattle.group.specs.Place.{sender, stamp, value, held, delivered, acked, unsent, inFlight}
+use Rattle.group.specs.Place.{members, mode, count, up, view, logLength, log, message}
+use Rattle.group.specs.Layout.{Layout, words, fields, inRecord, run, index, PlaceIn}
+use Rattle.group.specs.Step.{Step, broadcast, send, receive, deliver, crash, detect, lose}
+use Rattle.group.specs.Refusals.{isController, holding}
+use Rattle.group.specs.Writes.{fresh, writes}
+use Rattle.group.specs.Promises.{Allowed, after}
+use Rattle.group.specs.Above.{isSet, rewrites}
+use Rattle.group.proofs.Places.{Key, key, samePlace}
+use Rattle.group.proofs.Reading.{later, words-after}
+use Rattle.group.proofs.WritesIn.{writes-in}
+
+-- ---- two names of one place are one name: a name is read off its key
+
+fieldOf : ℕ → ℕ → Field
+fieldOf r i =
+    getD (sender ∷ stamp ∷ value ∷ held ∷ delivered ∷ acked i ∷ unsent i ∷ inFlight i ∷ []) r sender
+
+placeOf : ℕ → ℕ → ℕ → ℕ → Place
+placeOf r n i k =
+    getD (members ∷ mode ∷ count ∷ up ∷ view i ∷ logLength i ∷ log k i ∷ message k (fieldOf n i) ∷ []) r members
+
+field-named : (f : Field) → fieldOf (run f) (index f) ≡ f
+unfolding fieldOf
+field-named sender = refl
+field-named stamp = refl
+field-named value = refl
+field-named held = refl
+field-named delivered = refl
+field-named (acked i) = refl
+field-named (unsent i) = refl
+field-named (inFlight i) = refl
+
+place-named : (p : Place) → placeOf (key p .region) (key p .run) (key p .index) (key p .row) ≡ p
+unfolding placeOf
+place-named members = refl
+place-named mode = refl
+place-named count = refl
+place-named up = refl
+place-named (view i) = refl
+place-named (logLength i) = refl
+place-named (log i k) = refl
+place-named (message m f) = ap (message m) (field-named f)
+
+pub one-name : (p q : Place) → samePlace p q ≡ true → p ≡ q
+one-name p q e =
+    let a = both _ _ e in
+    let b = both _ _ (a .1) in
+    let c = both _ _ (b .1) in
+    let region = eqb-true (key p .region) (key q .region) (a .0) in
+    let run = eqb-true (key p .run) (key q .run) (b .0) in
+    let index = eqb-true (key p .index) (key q .index) (c .0) in
+    let row = eqb-true (key p .row) (key q .row) (c .1) in
+    sym (place-named p) ∙ (λ i. placeOf (region i) (run i) (index i) (row i)) ∙ place-named q
+
+-- ---- what is so of two words before, and of each two words written, is so of what two lists of writes leave
+
+module _ (R : Place → ℕ → ℕ → Type 0) where
+  abbrev Pairs : List (Write Place) → List (Write Place) → Type 0
+  Pairs [] [] = Unit {0}
+  Pairs [] (z ∷ zs) = ⊥
+  Pairs (y ∷ ys) [] = ⊥
+  Pairs (y ∷ ys) (z ∷ zs) = (y .at ≡ z .at) × R (y .at) (y .word) (z .word) × Pairs ys zs
+
+  later-pairs : (ys zs : List (Write Place)) (p : Place) (x u : ℕ) → Pairs ys zs → R p x u
+      → R p (later ys p x) (later zs p u)
+  later-pairs [] [] p x u h r = r
+  later-pairs [] (z ∷ zs) p x u h r = absurd h
+  later-pairs (y ∷ ys) [] p x u h r = absurd h
+  later-pairs (y ∷ ys) (z ∷ zs) p x u h r =
+      later-pairs ys zs p _ _ (h .2)
+      (subst (λ q. R p (cond (samePlace (y .at) p) (y .word) x) (cond (samePlace q p) (z .word) u)) (h .0)
+      (go (samePlace (y .at) p) refl))
+    where
+      go : (t : Bool) → samePlace (y .at) p ≡ t → R p (cond t (y .word) x) (cond t (z .word) u)
+      go true e = subst (λ q. R q (y .word) (z .word)) (one-name (y .at) p e) (h .1)
+      go false e = r
+
+-- ---- never changed
+
+module _ (L : Layout) (b : List ℕ) (j : ℕ) (l : words L b members ≤ j) where
+  abbrev w : Words
+  w = words L b
+
+  with-above : (x i : ℕ) → isController w i ≡ true → has (with x i) j ≡ has x j
+  with-above x i h =
+      let e : i ≡ j → ⊥ = omega (arith, ltb-true i (w members) h) in rw (has-with, ne-eqb i j e) (or-false (has x j))
+
+  without-above : (x i : ℕ) → isController w i ≡ true → has (without x i) j ≡ has x j
+  without-above x i h =
+      let e : i ≡ j → ⊥ = omega (arith, ltb-true i (w members) h) in rw (has-without, ne-eqb i j e) (and-true (has x j))
+
+  relay-above : (t : Bool) (x : ℕ) → has (cond t x (withAll x (w members))) j ≡ has x j
+  relay-above true x = refl
+  relay-above false x = rw (has-with-all, le-ltb j (w members) l) (or-false (has x j))
+
+  -- a word written to a set, where the step does not rewrite it, keeps bit j
+  abbrev Keeps : Step → Place → ℕ → ℕ → Type 0
+  Keeps s p x u = isSet p ≡ true → rewrites w s p ≡ false → has x j ≡ has (w p) j
+
+  abbrev AllKeep : Step → List (Write Place) → Type 0
+  AllKeep s ys = Pairs (Keeps s) ys ys
+
+  fresh-keeps : (who s v : ℕ) (g : Field → ℕ) (fs : List Field)
+      → AllKeep (broadcast who s v) (inRecord (w count) (map (λ f. f ≔ g f) fs) ++ (count ≔ (w count + 1) ∷ []))
+  fresh-keeps who s v g [] = (refl, λ e. absurd (false≢true e), tt)
+  fresh-keeps who s v g (f ∷ fs) =
+      (refl, λ e r. absurd (true≢false (sym (eq-eqb (w count) (w count) refl) ∙ r)), fresh-keeps who s v g fs)
+
+  writes-keep : (s : Step) → Allowed L b s → AllKeep s (writes L w s)
+  writes-keep (broadcast who s v) a = fresh-keeps who s v (fresh (w members) who s v) (fields L)
+  writes-keep (send from to m) a = (
+    refl,
+    λ e r. without-above _ to (a .free .1 .0),
+    (refl, λ e r. with-above _ from (a .free .0), tt),
+  )
+  writes-keep (receive i from m) a = (
+    refl,
+    λ e r. without-above _ from (a .free .1 .0),
+    (
+      refl,
+      λ e r. with-above _ from (a .free .1 .0),
+      (refl, λ e r. with-above _ i (a .free .0), (refl, λ e r. relay-above (holding w i m) _, tt)),
+    ),
+  )
+  writes-keep (deliver i m) a = (
+    refl,
+    λ e r. with-above _ i (a .free .0),
+    (refl, λ e. absurd (false≢true e), (refl, λ e. absurd (false≢true e), tt)),
+  )
+  writes-keep (crash who) a = (refl, λ e r. without-above _ who (a .free .0), tt)
+  writes-keep (detect i k) a = (refl, λ e r. without-above _ k (a .free .1 .0), tt)
+  writes-keep (lose from to m) a = (refl, λ e r. without-above _ from (a .free .0), tt)
+
+module _ (L : Layout) where
+  pub above-unchanged : (b : List ℕ) (s : Step) → Allowed L b s → (p : Place) → PlaceIn L p → isSet p ≡ true
+      → rewrites (words L b) s p ≡ false → (j : ℕ) → words L b members ≤ j
+      → has (words L (after L b s) p) j ≡ has (words L b p) j
+  above-unchanged b s a p h e r j l =
+      let ys = writes L (words L b) s in
+      ap (λ x. has x j) (words-after L b ys p (a .sound .whole) (writes-in L b s a) h)
+      ∙ later-pairs (Keeps L b j l s) ys ys p (words L b p) (words L b p) (writes-keep L b j l s a) (λ _ _. refl) e r
