@@ -68,26 +68,22 @@ one-name p q e =
 
 -- ---- what is so of two words before, and of each two words written, is so of what two lists of writes leave
 
-module _ (R : Place → ℕ → ℕ → Type 0) where
-  abbrev Pairs : List (Write Place) → List (Write Place) → Type 0
-  Pairs [] [] = Unit {0}
-  Pairs [] (z ∷ zs) = ⊥
-  Pairs (y ∷ ys) [] = ⊥
-  Pairs (y ∷ ys) (z ∷ zs) = (y .at ≡ z .at) × R (y .at) (y .word) (z .word) × Pairs ys zs
+pub data Pairs (R : Place → ℕ → ℕ → Type 0) : List (Write Place) → List (Write Place) → Type 0 where
+  end : Pairs R [] []
+  pair : {y z : Write Place} {ys zs : List (Write Place)} → y .at ≡ z .at → R (y .at) (y .word) (z .word)
+      → Pairs R ys zs → Pairs R (y ∷ ys) (z ∷ zs)
 
-  later-pairs : (ys zs : List (Write Place)) (p : Place) (x u : ℕ) → Pairs ys zs → R p x u
-      → R p (later ys p x) (later zs p u)
-  later-pairs [] [] p x u h r = r
-  later-pairs [] (z ∷ zs) p x u h r = absurd h
-  later-pairs (y ∷ ys) [] p x u h r = absurd h
-  later-pairs (y ∷ ys) (z ∷ zs) p x u h r =
-      later-pairs ys zs p _ _ (h .2)
-      (subst (λ q. R p (cond (samePlace (y .at) p) (y .word) x) (cond (samePlace q p) (z .word) u)) (h .0)
-      (go (samePlace (y .at) p) refl))
-    where
-      go : (t : Bool) → samePlace (y .at) p ≡ t → R p (cond t (y .word) x) (cond t (z .word) u)
-      go true e = subst (λ q. R q (y .word) (z .word)) (one-name (y .at) p e) (h .1)
-      go false e = r
+pub later-pairs : {R : Place → ℕ → ℕ → Type 0} {ys zs : List (Write Place)} (p : Place) (x u : ℕ) → Pairs R ys zs
+    → R p x u → R p (later ys p x) (later zs p u)
+later-pairs p x u end r = r
+later-pairs {R} p x u (pair {y = y} {z = z} a h hs) r =
+    later-pairs p _ _ hs
+    (subst (λ q. R p (cond (samePlace (y .at) p) (y .word) x) (cond (samePlace q p) (z .word) u)) a
+    (go (samePlace (y .at) p) refl))
+  where
+    go : (t : Bool) → samePlace (y .at) p ≡ t → R p (cond t (y .word) x) (cond t (z .word) u)
+    go true e = subst (λ q. R q (y .word) (z .word)) (one-name (y .at) p e) h
+    go false e = r
 
 -- ---- never changed
 
@@ -116,34 +112,24 @@ module _ (L : Layout) (b : List ℕ) (j : ℕ) (l : words L b members ≤ j) whe
 
   fresh-keeps : (who s v : ℕ) (g : Field → ℕ) (fs : List Field)
       → AllKeep (broadcast who s v) (inRecord (w count) (map (λ f. f ≔ g f) fs) ++ (count ≔ (w count + 1) ∷ []))
-  fresh-keeps who s v g [] = (refl, λ e. absurd (false≢true e), tt)
+  fresh-keeps who s v g [] = pair refl (λ e. absurd (false≢true e)) end
   fresh-keeps who s v g (f ∷ fs) =
-      (refl, λ e r. absurd (true≢false (sym (eq-eqb (w count) (w count) refl) ∙ r)), fresh-keeps who s v g fs)
+      pair refl (λ e r. absurd (true≢false (sym (eq-eqb (w count) (w count) refl) ∙ r))) (fresh-keeps who s v g fs)
 
   writes-keep : (s : Step) → Allowed L b s → AllKeep s (writes L w s)
   writes-keep (broadcast who s v) a = fresh-keeps who s v (fresh (w members) who s v) (fields L)
-  writes-keep (send from to m) a = (
-    refl,
-    λ e r. without-above _ to (a .free .1 .0),
-    (refl, λ e r. with-above _ from (a .free .0), tt),
-  )
-  writes-keep (receive i from m) a = (
-    refl,
-    λ e r. without-above _ from (a .free .1 .0),
-    (
-      refl,
-      λ e r. with-above _ from (a .free .1 .0),
-      (refl, λ e r. with-above _ i (a .free .0), (refl, λ e r. relay-above (holding w i m) _, tt)),
-    ),
-  )
-  writes-keep (deliver i m) a = (
-    refl,
-    λ e r. with-above _ i (a .free .0),
-    (refl, λ e. absurd (false≢true e), (refl, λ e. absurd (false≢true e), tt)),
-  )
-  writes-keep (crash who) a = (refl, λ e r. without-above _ who (a .free .0), tt)
-  writes-keep (detect i k) a = (refl, λ e r. without-above _ k (a .free .1 .0), tt)
-  writes-keep (lose from to m) a = (refl, λ e r. without-above _ from (a .free .0), tt)
+  writes-keep (send from to m) a =
+      pair refl (λ e r. without-above _ to (a .free .1 .0)) (pair refl (λ e r. with-above _ from (a .free .0)) end)
+  writes-keep (receive i from m) a =
+      pair refl (λ e r. without-above _ from (a .free .1 .0))
+      (pair refl (λ e r. with-above _ from (a .free .1 .0))
+      (pair refl (λ e r. with-above _ i (a .free .0)) (pair refl (λ e r. relay-above (holding w i m) _) end)))
+  writes-keep (deliver i m) a =
+      pair refl (λ e r. with-above _ i (a .free .0))
+      (pair refl (λ e. absurd (false≢true e)) (pair refl (λ e. absurd (false≢true e)) end))
+  writes-keep (crash who) a = pair refl (λ e r. without-above _ who (a .free .0)) end
+  writes-keep (detect i k) a = pair refl (λ e r. without-above _ k (a .free .1 .0)) end
+  writes-keep (lose from to m) a = pair refl (λ e r. without-above _ from (a .free .0)) end
 
 module _ (L : Layout) where
   pub above-unchanged : (b : List ℕ) (s : Step) → Allowed L b s → (p : Place) → PlaceIn L p → isSet p ≡ true
@@ -152,4 +138,4 @@ module _ (L : Layout) where
   above-unchanged b s a p h e r j l =
       let ys = writes L (words L b) s in
       ap (λ x. has x j) (words-after L b ys p (a .sound .whole) (writes-in L b s a) h)
-      ∙ later-pairs (Keeps L b j l s) ys ys p (words L b p) (words L b p) (writes-keep L b j l s a) (λ _ _. refl) e r
+      ∙ later-pairs {R = Keeps L b j l s} p (words L b p) (words L b p) (writes-keep L b j l s a) (λ _ _. refl) e r

@@ -16,3 +16,4 @@ pub mod Runs
 pub mod Asking
 pub mod Determined
 pub mod Above
+pub mod Unread

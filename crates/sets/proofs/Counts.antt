@@ -39,6 +39,11 @@ every-fails p n k l h = go (every p n) refl
     go true e = absurd (false≢true (sym h ∙ every-at p n e k l))
     go false e = refl
 
+pub every-same : (p q : ℕ → Bool) (n : ℕ) → ((i : ℕ) → i < n → p i ≡ q i) → every p n ≡ every q n
+unfolding every
+every-same p q zero h = refl
+every-same p q (suc n) h = rw (h n (omega arith), every-same p q n (λ i l. h i (omega arith)))
+
 -- ---- how many numbers below n
 
 one-more : (s t : Bool) → (s ≡ true → t ≡ true) → cond s 1 0 ≤ cond t 1 0
