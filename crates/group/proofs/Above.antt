@@ -1,10 +1,9 @@
--- Set bits of N and above are never changed, save by a broadcast in its record, and never read.
-use mathlib.Core.Path.{_≡_, refl, sym, ap, ap₂, subst, _∙_}
-use mathlib.Core.Bool.{Bool, true, false, cond, not, _&&_, _||_, false≢true, true≢false, or-false, and-true}
+-- Set bits of N and above are never changed, save by a broadcast in its own record.
+use mathlib.Core.Path.{_≡_, refl, sym, ap, subst, _∙_}
+use mathlib.Core.Bool.{Bool, true, false, cond, false≢true, true≢false, or-false, and-true}
 use mathlib.Core.List.{List, [], _∷_, _++_, map}
-use Prim.Native.Nat.{ℕ, _+_, _≤_, _<_}
+use Prim.Native.Nat.{ℕ, _+_, _≤_}
 use native.Mathlib.Omega.{arith}
-use lib.Dec.{eqb, ltb}
 use lib.ListN.{getD}
 use borrow.Author.Tests.{eq-eqb, ne-eqb, eqb-true, ltb-true, le-ltb}
 use Rattle.sets.specs.Set.{has, with, without, withAll}
@@ -19,7 +18,7 @@ use Rattle.group.specs.Refusals.{isController, holding}
 use Rattle.group.specs.Writes.{fresh, writes}
 use Rattle.group.specs.Promises.{Allowed, after}
 use Rattle.group.specs.Above.{isSet, rewrites}
-use Rattle.group.proofs.Places.{Key, key, samePlace}
+use Rattle.group.proofs.Places.{key, samePlace}
 use Rattle.group.proofs.Reading.{later, words-after}
 use Rattle.group.proofs.WritesIn.{writes-in}
 
@@ -85,6 +84,10 @@ later-pairs {R} p x u (pair {y = y} {z = z} a h hs) r =
     go true e = subst (λ q. R q (y .word) (z .word)) (one-name (y .at) p e) h
     go false e = r
 
+pub word-after : (L : Layout) (b : List ℕ) (s : Step) → Allowed L b s → (p : Place) → PlaceIn L p
+    → words L (after L b s) p ≡ later (writes L (words L b) s) p (words L b p)
+word-after L b s a p h = words-after L b (writes L (words L b) s) p (a .sound .whole) (writes-in L b s a) h
+
 -- ---- never changed
 
 module _ (L : Layout) (b : List ℕ) (j : ℕ) (l : words L b members ≤ j) where
@@ -136,6 +139,5 @@ module _ (L : Layout) where
       → rewrites (words L b) s p ≡ false → (j : ℕ) → words L b members ≤ j
       → has (words L (after L b s) p) j ≡ has (words L b p) j
   above-unchanged b s a p h e r j l =
-      let ys = writes L (words L b) s in
-      ap (λ x. has x j) (words-after L b ys p (a .sound .whole) (writes-in L b s a) h)
+      ap (λ x. has x j) (word-after L b s a p h)
       ∙ later-pairs {R = Keeps L b j l s} p (words L b p) (words L b p) (writes-keep L b j l s a) (λ _ _. refl) e r
