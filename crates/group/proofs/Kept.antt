@@ -17,43 +17,22 @@ use Rattle.group.specs.Opening.{views, opening, opened, openOf}
 use Rattle.group.specs.Step.{Step, broadcast, send, receive, deliver, crash, detect, lose, asked}
 use Rattle.group.specs.Writes.{freshRecord, writes}
 use Rattle.group.specs.Promises.{Allowed, after, askedAfter, refusalOf, stepOf}
-use Rattle.group.proofs.Places.{key, samePlace, inside}
+use Rattle.group.proofs.Places.{Key, key, inside}
 use Rattle.group.proofs.Reading.{later, length-puts, words-after, later-append}
 use Rattle.group.proofs.Rules.{stop}
 use Rattle.group.proofs.Fitness.{facts-fit, allowed-step}
 use Rattle.group.proofs.Views.{size-range}
 use Rattle.group.proofs.WritesIn.{writes-in, opening-in}
+use Rattle.group.proofs.Names.{Aside, record-aside, views-aside, later-aside, word-after}
 
 -- ---- the words that decide whether a bank is fit
 
 -- members, mode, count and the log lengths, by their regions
-abbrev weighty : ℕ → Bool
-weighty r = eqb r 0 || (eqb r 1 || (eqb r 2 || eqb r 5))
+abbrev weighty : Key → Bool
+weighty k = eqb (k .region) 0 || (eqb (k .region) 1 || (eqb (k .region) 2 || eqb (k .region) 5))
 
 abbrev decides : Place → Bool
-decides p = weighty (key p .region)
-
--- no write is to such a word
-abbrev Aside : List (Write Place) → Type 0
-Aside [] = Unit {0}
-Aside (y ∷ ys) = (decides (y .at) ≡ false) × Aside ys
-
-apart : (p q : Place) → decides p ≡ false → decides q ≡ true → samePlace p q ≡ false
-apart p q hp hq =
-    let other : key p .region ≡ key q .region → ⊥ = λ e. false≢true (sym hp ∙ ap weighty e ∙ hq) in
-    rw (ne-eqb _ _ other)
-
-later-aside : (ys : List (Write Place)) (p : Place) (x : ℕ) → Aside ys → decides p ≡ true → later ys p x ≡ x
-later-aside [] p x h d = refl
-later-aside (y ∷ ys) p x h d = rw (apart (y .at) p (h .0) d) (later-aside ys p x (h .1) d)
-
-record-aside : (m : ℕ) (xs : List (Write Field)) → Aside (inRecord m xs)
-record-aside m [] = tt
-record-aside m (x ∷ xs) = (refl, record-aside m xs)
-
-views-aside : (n i k : ℕ) → Aside (views n i k)
-views-aside n i zero = tt
-views-aside n i (suc k) = (refl, views-aside n (suc i) k)
+decides p = weighty (key p)
 
 -- what makes words fit
 record Sound (L : Layout) (w : Words) : Type 0 where
@@ -98,14 +77,14 @@ module _ (L : Layout) where
   Leaves : List ℕ → List (Write Place) → Type 0
   Leaves b ys = Sound L (λ p. later ys p (words L b p))
 
-  still : (b : List ℕ) (ys : List (Write Place)) → Aside ys → Fit L b → Leaves b ys
+  still : (b : List ℕ) (ys : List (Write Place)) → Aside weighty ys → Fit L b → Leaves b ys
   unfolding Leaves
-  still b ys q f = alike _ _ (λ p d h. later-aside ys p (words L b p) q d) (fit-sound b f)
+  still b ys q f = alike _ _ (λ p d h. later-aside weighty ys p (words L b p) q d) (fit-sound b f)
 
-  aside-first : (b : List ℕ) (zs us : List (Write Place)) → Aside zs → Leaves b us → Leaves b (zs ++ us)
+  aside-first : (b : List ℕ) (zs us : List (Write Place)) → Aside weighty zs → Leaves b us → Leaves b (zs ++ us)
   unfolding Leaves
   aside-first b zs us q =
-      alike _ _ (λ p d h. later-append zs us p (words L b p) ∙ ap (later us p) (later-aside zs p (words L b p) q d))
+      alike _ _ (λ p d h. later-append zs us p (words L b p) ∙ ap (later us p) (later-aside weighty zs p (words L b p) q d))
 
   one-more-message : (b : List ℕ) → Fit L b → words L b count < L .messages
       → Leaves b (count ≔ (words L b count + 1) ∷ [])
@@ -130,7 +109,7 @@ module _ (L : Layout) where
   sound-step b (broadcast who s v) a =
       let w = words L b in
       let new = freshRecord L (w members) who s v (recordOf w (w count)) in
-      aside-first b (inRecord (w count) new) _ (record-aside (w count) new)
+      aside-first b (inRecord (w count) new) _ (record-aside weighty (w count) new (λ f. refl))
       (one-more-message b (a .sound) (ltb-true _ _ (a .free .1 .1 .0)))
   sound-step b (send from to m) a = still b _ (refl, (refl, tt)) (a .sound)
   sound-step b (receive i from m) a = still b _ (refl, (refl, (refl, (refl, tt)))) (a .sound)
@@ -147,7 +126,7 @@ module _ (L : Layout) where
       let ys = writes L (words L b) s in
       let l = a .sound .whole in
       sound-fit (after L b s) (length-puts (address L) b ys ∙ l)
-      (alike _ _ (λ p d h. words-after L b ys p l (writes-in L b s a) h) (sound-step b s a))
+      (alike _ _ (λ p d h. word-after L b s a p h) (sound-step b s a))
 
   -- ---- an opening
 
@@ -161,7 +140,7 @@ module _ (L : Layout) where
       sound-fit _ (length-puts (address L) zeros (opening n k) ∙ l)
       (alike (λ p. later top p 0) _
       (λ p d h. words-after L zeros (opening n k) p l (opening-in L n k (r .1)) h
-      ∙ later-aside (views n 0 n) p _ (views-aside n 0 n) d
+      ∙ later-aside weighty (views n 0 n) p _ (views-aside weighty n 0 n (λ i. refl)) d
       ∙ ap (later top p) (getD-replicate (size L) (address L p) 0 0 (inside L p h)))
       (record { header = (r .0, r .1, known); given = omega arith; logs = λ i h. omega arith }))
 

@@ -11,9 +11,10 @@ pub mod Bounds
 pub mod Fresh
 pub mod Views
 pub mod WritesIn
+pub mod Names
 pub mod Kept
 pub mod Runs
 pub mod Asking
-pub mod Determined
 pub mod Above
 pub mod Unread
+pub mod Determined

@@ -10,8 +10,8 @@ use Rattle.group.specs.Step.{broadcast}
 use Rattle.group.specs.Writes.{fresh}
 use Rattle.group.specs.Promises.{Allowed, after}
 use Rattle.group.proofs.Reading.{later-append}
-use Rattle.laws.proofs.Names.{record-word}
-use Rattle.laws.proofs.Untouched.{word-after}
+use Rattle.group.proofs.Names.{word-after}
+use Rattle.laws.proofs.Whole.{record-word}
 
 module _ (L : Layout) (b : List ℕ) (who s v : ℕ) (a : Allowed L b (broadcast who s v)) where
   pub new-word : (f : Field) → FieldIn L f

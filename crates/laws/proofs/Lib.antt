@@ -11,7 +11,7 @@ pub mod End
 pub mod Sums
 pub mod Weights
 pub mod Work
-pub mod Names
+pub mod Whole
 pub mod Visible
 pub mod Bridge
 pub mod Written

@@ -18,8 +18,8 @@ use Rattle.group.proofs.Places.{Key, key, inside}
 use Rattle.group.proofs.Reading.{later, words-after}
 use Rattle.group.proofs.Views.{size-range}
 use Rattle.group.proofs.WritesIn.{opening-in}
+use Rattle.group.proofs.Names.{views-aside, later-aside}
 use Rattle.laws.proofs.Sets.{openSets}
-use Rattle.laws.proofs.Names.{views-aside, later-aside}
 use Rattle.laws.proofs.Visible.{seen-same, seen-later, seen-nothing}
 use Rattle.laws.proofs.Bridge.{recordSets, sets}
 use Rattle.laws.proofs.Steps.{setsOf}

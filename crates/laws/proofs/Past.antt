@@ -12,8 +12,9 @@ use Rattle.group.specs.Layout.{Layout, words, PlaceIn}
 use Rattle.group.specs.Step.{Step, broadcast, send, receive, deliver, crash, detect, lose}
 use Rattle.group.specs.Promises.{Allowed, after}
 use Rattle.group.proofs.Places.{key}
+use Rattle.group.proofs.Names.{word-after}
 use Rattle.laws.specs.Runs.{Run, done, next, Settling, settles}
-use Rattle.laws.proofs.Untouched.{keeps, word-after, untouched}
+use Rattle.laws.proofs.Untouched.{keeps, untouched}
 
 -- a word that is written only where two numbers are equal
 unless : (a b v x : ℕ) → (a ≡ b → ⊥) → cond (eqb a b && true) v x ≡ x

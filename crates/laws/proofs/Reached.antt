@@ -18,8 +18,8 @@ use Rattle.group.proofs.Reading.{later, words-after}
 use Rattle.group.proofs.Views.{size-range}
 use Rattle.group.proofs.WritesIn.{opening-in}
 use Rattle.group.proofs.Kept.{fit-opened, fit-after}
+use Rattle.group.proofs.Names.{views-aside, later-aside}
 use Rattle.laws.specs.Runs.{Run, done, next}
-use Rattle.laws.proofs.Names.{views-aside, later-aside}
 use Rattle.laws.proofs.Untouched.{untouched}
 
 -- P speaks of the steps taken and of the state that they led to

@@ -14,6 +14,7 @@ use Rattle.group.specs.Step.{Step, broadcast, send, receive, deliver, crash, de
 use Rattle.group.specs.Promises.{Allowed, after}
 use Rattle.group.proofs.Bounds.{controller-below}
 use Rattle.group.proofs.Kept.{fit-after}
+use Rattle.group.proofs.Names.{word-after}
 use Rattle.settler.specs.Candidates.{next}
 use Rattle.settler.specs.Settling.{onNext}
 use Rattle.laws.specs.Runs.{Settling}
@@ -22,7 +23,7 @@ use Rattle.laws.proofs.Sets.{RecordSets, Sets, inMessage, act, Ok, afte
 use Rattle.laws.proofs.Swap.{SettlingKind, sends, receives, delivers, detects, kind-of}
 use Rattle.laws.proofs.Steps.{setsOf, sets-after}
 use Rattle.laws.proofs.Allowing.{allowed-ok, Roomy, ok-allowed}
-use Rattle.laws.proofs.Untouched.{word-after, untouched}
+use Rattle.laws.proofs.Untouched.{untouched}
 use Rattle.laws.proofs.Choice.{Next, next-is}
 
 -- ---- on sets: a step of message m changes only m's record

@@ -11,9 +11,7 @@ use Rattle.group.specs.Step.{Step, broadcast, send, receive, deliver, crash, de
 use Rattle.group.specs.Writes.{freshRecord, writes}
 use Rattle.group.specs.Promises.{Allowed, after}
 use Rattle.group.proofs.Places.{Key, key}
-use Rattle.group.proofs.Reading.{later, words-after}
-use Rattle.group.proofs.WritesIn.{writes-in}
-use Rattle.laws.proofs.Names.{Aside, aside-append, record-aside, later-aside}
+use Rattle.group.proofs.Names.{Aside, aside-append, record-aside, later-aside, word-after}
 
 -- ---- what each step leaves alone
 
@@ -67,13 +65,9 @@ module _ (L : Layout) where
   writes-aside w (detect i j) = (refl, tt)
   writes-aside w (lose from to m) = (refl, tt)
 
-  -- what a place holds after a step, and that it holds what it held where the step leaves it alone
-  pub word-after : (b : List ℕ) (s : Step) → Allowed L b s → (p : Place) → PlaceIn L p
-      → words L (after L b s) p ≡ later (writes L (words L b) s) p (words L b p)
-  word-after b s a p h = words-after L b (writes L (words L b) s) p (a .sound .whole) (writes-in L b s a) h
-
+  -- a place that a step leaves alone holds what it held
   pub untouched : (b : List ℕ) (s : Step) → Allowed L b s → (p : Place) → PlaceIn L p
       → keeps (words L b) s (key p) ≡ true → words L (after L b s) p ≡ words L b p
   untouched b s a p h k =
-      word-after b s a p h
+      word-after L b s a p h
       ∙ later-aside (keeps (words L b) s) (writes L (words L b) s) p (words L b p) (writes-aside (words L b) s) k

@@ -19,7 +19,7 @@ use Rattle.group.proofs.Places.{Key, key, samePlace}
 use Rattle.group.proofs.Reading.{later, AllIn, words-after}
 use Rattle.group.proofs.Bounds.{controller-below, message-below, copy-below}
 use Rattle.group.proofs.WritesIn.{writes-in}
-use Rattle.laws.proofs.Names.{one-key}
+use Rattle.group.proofs.Names.{one-name}
 
 -- ---- whether a layout has a place, by its key
 
@@ -67,7 +67,7 @@ module _ (L : Layout) where
 
   -- one place, one answer
   same-in : (p q : Place) → samePlace p q ≡ true → keyIn (key p) ≡ keyIn (key q)
-  same-in p q e = ap keyIn (one-key p q e)
+  same-in p q e = ap (λ r. keyIn (key r)) (one-name p q e)
 
   -- ---- what is seen of the words
 
