@@ -32,6 +32,10 @@ fn not_asked() {
         group::step(&mut bank, 5, 0, 1, 0),
     );
     say::refusal(
+        b"crash with a third number",
+        group::step(&mut bank, 5, 0, 0, 1),
+    );
+    say::refusal(
         b"detect with a third number",
         group::step(&mut bank, 6, 0, 1, 1),
     );
@@ -131,11 +135,27 @@ fn copies() {
     );
 }
 
+// With the receiver down its copy may be lost, but only once.
+fn losses() {
+    let mut bank = opened(2, 2);
+    let sent = [1u16, 0, 95, 7, 2, 0, 1, 0, 5, 1, 0, 0];
+    group::run(&mut bank, &sent);
+    say::refusal(
+        b"lose with the receiver down",
+        group::step(&mut bank, 7, 0, 1, 0),
+    );
+    say::refusal(b"the same loss again", group::step(&mut bank, 7, 0, 1, 0));
+}
+
 fn deliveries() {
     let mut bank = opened(1, 1);
     group::step(&mut bank, 1, 0, 0, 0);
     group::step(&mut bank, 2, 0, 0, 0);
-    group::step(&mut bank, 3, 0, 0, 0);
+    say::refusal(b"receive", group::step(&mut bank, 3, 0, 0, 0));
+    say::refusal(
+        b"the same receive again",
+        group::step(&mut bank, 3, 0, 0, 0),
+    );
     let mut spoilt = bank;
     say::refusal(b"deliver", group::step(&mut bank, 4, 0, 0, 0));
     say::refusal(b"a second deliver", group::step(&mut bank, 4, 0, 0, 0));
@@ -178,6 +198,7 @@ pub(crate) fn show() {
     not_there();
     down();
     copies();
+    losses();
     deliveries();
     broadcasts();
 }
