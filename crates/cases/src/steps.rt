@@ -52,16 +52,44 @@ fn not_there() {
         group::step(&mut bank, 2, 0, 3, 0),
     );
     say::refusal(
+        b"receive from controller 3 of 3",
+        group::step(&mut bank, 3, 0, 3, 0),
+    );
+    say::refusal(
+        b"deliver by controller 3 of 3",
+        group::step(&mut bank, 4, 3, 0, 0),
+    );
+    say::refusal(
+        b"crash of controller 3 of 3",
+        group::step(&mut bank, 5, 3, 0, 0),
+    );
+    say::refusal(
         b"detect of controller 3 of 3",
         group::step(&mut bank, 6, 0, 3, 0),
     );
+    say::refusal(
+        b"lose from controller 3 of 3",
+        group::step(&mut bank, 7, 3, 0, 0),
+    );
+}
+
+fn not_given() {
+    let mut bank = opened(3, 1);
     say::refusal(
         b"send of a message not given",
         group::step(&mut bank, 2, 0, 1, 0),
     );
     say::refusal(
+        b"receive of a message not given",
+        group::step(&mut bank, 3, 0, 1, 0),
+    );
+    say::refusal(
         b"deliver of a message not given",
         group::step(&mut bank, 4, 0, 0, 0),
+    );
+    say::refusal(
+        b"lose of a message not given",
+        group::step(&mut bank, 7, 0, 1, 0),
     );
 }
 
@@ -109,6 +137,11 @@ fn copies() {
         b"deliver with acknowledgements missing",
         group::step(&mut bank, 4, 0, 0, 0),
     );
+}
+
+fn sender_up_and_down() {
+    let mut bank = opened(3, 1);
+    group::step(&mut bank, 1, 0, 95, 7);
     say::refusal(b"send", group::step(&mut bank, 2, 0, 1, 0));
     say::refusal(b"the same send again", group::step(&mut bank, 2, 0, 1, 0));
     say::refusal(
@@ -135,11 +168,23 @@ fn copies() {
     );
 }
 
-// With the receiver down its copy may be lost, but only once.
-fn losses() {
-    let mut bank = opened(2, 2);
+// A copy is on its way to one that is down: it acts no more, and the copy may be lost, but only once.
+fn receiver_down() {
+    let mut bank = opened(2, 1);
     let sent = [1u16, 0, 95, 7, 2, 0, 1, 0, 5, 1, 0, 0];
     group::run(&mut bank, &sent);
+    say::refusal(
+        b"receive by one that is down",
+        group::step(&mut bank, 3, 1, 0, 0),
+    );
+    say::refusal(
+        b"deliver by one that is down",
+        group::step(&mut bank, 4, 1, 0, 0),
+    );
+    say::refusal(
+        b"detect by one that is down",
+        group::step(&mut bank, 6, 1, 0, 0),
+    );
     say::refusal(
         b"lose with the receiver down",
         group::step(&mut bank, 7, 0, 1, 0),
@@ -196,9 +241,11 @@ pub(crate) fn show() {
     unfit();
     not_asked();
     not_there();
+    not_given();
     down();
     copies();
-    losses();
+    sender_up_and_down();
+    receiver_down();
     deliveries();
     broadcasts();
 }
