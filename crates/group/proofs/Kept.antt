@@ -84,7 +84,8 @@ module _ (L : Layout) where
   aside-first : (b : List ℕ) (zs us : List (Write Place)) → Aside weighty zs → Leaves b us → Leaves b (zs ++ us)
   unfolding Leaves
   aside-first b zs us q =
-      alike _ _ (λ p d h. later-append zs us p (words L b p) ∙ ap (later us p) (later-aside weighty zs p (words L b p) q d))
+      alike _ _
+      (λ p d h. later-append zs us p (words L b p) ∙ ap (later us p) (later-aside weighty zs p (words L b p) q d))
 
   one-more-message : (b : List ℕ) → Fit L b → words L b count < L .messages
       → Leaves b (count ≔ (words L b count + 1) ∷ [])
