@@ -1,5 +1,6 @@
 //! The words of a command line: numbers and names in order, then flags with a value.
 
+use std::process::ExitCode;
 use std::str::FromStr;
 
 /// A command line, read.
@@ -47,6 +48,21 @@ impl Args {
     /// The value of a flag, as a number.
     pub fn flag_number<T: FromStr>(&self, name: &str) -> Result<Option<T>, String> {
         self.flag(name).map(|value| parse(value, name)).transpose()
+    }
+}
+
+/// Does what a command line asks for, or says what is wrong with the line.
+pub fn answer<R>(
+    request: Result<R, String>,
+    usage: &str,
+    work: impl FnOnce(R) -> ExitCode,
+) -> ExitCode {
+    match request {
+        Ok(request) => work(request),
+        Err(text) => {
+            eprintln!("{text}\n{usage}");
+            ExitCode::from(2)
+        }
     }
 }
 

@@ -3,7 +3,7 @@
 use std::process::ExitCode;
 use std::time::{Duration, Instant};
 
-use loargwen_host::args::Args;
+use loargwen_host::args::{self, Args};
 use loargwen_host::cases;
 use loargwen_host::contest::{Calls, Setting};
 use loargwen_host::figures::Figures;
@@ -134,14 +134,7 @@ fn compare_linked(_: &Request) -> Result<bool, String> {
     Err("no archive to compare with: give --served, or build with the feature archive".to_string())
 }
 
-fn main() -> ExitCode {
-    let request = match request() {
-        Ok(request) => request,
-        Err(text) => {
-            eprintln!("{text}\n{USAGE}");
-            return ExitCode::from(2);
-        }
-    };
+fn compare_asked(request: Request) -> ExitCode {
     let compared = match &request.served {
         Some(command) => compare_served(&request, command),
         None => compare_linked(&request),
@@ -154,4 +147,8 @@ fn main() -> ExitCode {
             ExitCode::from(2)
         }
     }
+}
+
+fn main() -> ExitCode {
+    args::answer(request(), USAGE, compare_asked)
 }

@@ -4,7 +4,7 @@ use std::io::{self, Write};
 use std::process::{Command, ExitCode, Stdio};
 use std::time::Instant;
 
-use loargwen_host::args::Args;
+use loargwen_host::args::{self, Args};
 use loargwen_host::figures::Figures;
 use loargwen_host::plant::Plant;
 use loargwen_host::random::Random;
@@ -99,14 +99,7 @@ fn case(request: &Request, number: u64, figures: &mut Figures) -> Result<(), Str
     }
 }
 
-fn main() -> ExitCode {
-    let request = match request() {
-        Ok(request) => request,
-        Err(text) => {
-            eprintln!("{text}\n{USAGE}");
-            return ExitCode::from(2);
-        }
-    };
+fn compare_asked(request: Request) -> ExitCode {
     let mut figures = Figures::default();
     let began = Instant::now();
     for number in request.cases.clone() {
@@ -120,4 +113,8 @@ fn main() -> ExitCode {
     print!("seed {}\n{figures}", request.seed);
     println!("no difference, {:.1} s", began.elapsed().as_secs_f64());
     ExitCode::SUCCESS
+}
+
+fn main() -> ExitCode {
+    args::answer(request(), USAGE, compare_asked)
 }
