@@ -1,6 +1,6 @@
 -- The words of a record just broadcast: cleared, and five words written, or written field by field, all the same.
 use mathlib.Core.Path.{_≡_, refl, sym, ap, ap₂, subst, _∙_}
-use mathlib.Core.Bool.{Bool, true, false, cond}
+use mathlib.Core.Bool.{cond}
 use mathlib.Core.List.{List, [], _∷_, _++_, map, append-nil}
 use Prim.Native.Nat.{ℕ, zero, suc, _+_, _≤_, _<_}
 use native.Mathlib.Nat.{add-zero, zero-add}
@@ -10,7 +10,7 @@ use lib.ListN.{length, set, replicate, drop-of-length-le, length-append, length-
 use lib.Seq.{sets, sets-eq, set-append-left}
 use borrow.Author.Tests.{eq-eqb, ne-eqb}
 use Rattle.sets.specs.Set.{with, allBelow}
-use Rattle.group.specs.Place.{Field, Write, _≔_, acked, unsent, inFlight}
+use Rattle.group.specs.Place.{Field, _≔_, acked, unsent, inFlight}
 use Rattle.group.specs.Layout.{Layout, paper, start, recordWidths, recordSize, offset, puts, upFrom, fields}
 use Rattle.group.specs.Writes.{fresh}
 use Rattle.group.proofs.Lending.{Below, set-append-add}

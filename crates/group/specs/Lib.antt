@@ -1,3 +1,4 @@
+-- The definitions of the group's rules, in the order in which to read them.
 pub mod Place
 pub mod Layout
 pub mod Numbers

@@ -1,7 +1,5 @@
 // Questions about a log. Reads the header, one log length and that log; writes nothing.
-ghost use mathlib.Core.Path.{_≡_};
-ghost use Rattle.group.specs.Layout.{paper};
-ghost use Rattle.group.specs.Logs.{LengthPromise, LogPromise, logRefusal, lengthOf};
+ghost use Rattle.group.specs.Logs.{LengthPromise, LogPromise};
 use crate::Bank;
 
 // A log's length, 0 where the question is refused.

@@ -1,14 +1,13 @@
 -- At the end, on banks: what anybody has delivered, and what a sender that is up has broadcast, is once in every log.
-use mathlib.Core.Path.{_≡_, refl, sym, ap, ap₂, subst, _∙_}
-use mathlib.Core.Bool.{Bool, true, false, cond}
-use mathlib.Core.Logic.{_⊎_, inl, inr}
+use mathlib.Core.Path.{_≡_, refl, sym, ap, subst, _∙_}
+use mathlib.Core.Bool.{true, cond}
 use mathlib.Core.List.{List}
 use Prim.Native.Nat.{ℕ, _<_}
 use native.Mathlib.Omega.{arith}
-use Rattle.sets.specs.Set.{has, tally, countBelow}
-use Rattle.group.specs.Place.{members, mode, count, up, message, sender, held, delivered}
+use Rattle.sets.specs.Set.{has, countBelow}
+use Rattle.group.specs.Place.{members, count, up, message, sender, held, delivered}
 use Rattle.group.specs.Layout.{Layout, words}
-use Rattle.group.specs.Fit.{Fit, allAck, majority}
+use Rattle.group.specs.Fit.{Fit}
 use Rattle.group.specs.Step.{Step}
 use Rattle.group.specs.Refusals.{isUp, holding, hasDelivered}
 use Rattle.group.specs.Logs.{logOf}
@@ -20,7 +19,6 @@ use Rattle.laws.proofs.Sets.{Sets, Ok, Quorate}
 use Rattle.laws.proofs.Visible.{visible, seen-in}
 use Rattle.laws.proofs.Bridge.{recordSets, sets}
 use Rattle.laws.proofs.Steps.{setsOf}
-use Rattle.laws.proofs.Keep.{Inv}
 use Rattle.laws.proofs.End
 use Rattle.laws.proofs.Lifting.{reached-inv}
 use Rattle.laws.proofs.Ends.{reached-fit, reached-logs, quiet-sets}

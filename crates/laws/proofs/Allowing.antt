@@ -1,6 +1,6 @@
 -- What a bank allows its sets allow, and what they allow of settling the bank allows where a log has room.
-use mathlib.Core.Path.{_≡_, refl, sym, ap, ap₂, _∙_}
-use mathlib.Core.Bool.{Bool, true, false, not, _&&_, false≢true}
+use mathlib.Core.Path.{_≡_, sym, ap, ap₂, _∙_}
+use mathlib.Core.Bool.{true, false, not, false≢true}
 use mathlib.Core.List.{List, [], _∷_, _++_}
 use Prim.Native.Nat.{ℕ, _<_}
 use native.Mathlib.Omega.{arith}
@@ -10,7 +10,7 @@ use Rattle.sets.specs.Set.{has, within, countBelow}
 use Rattle.group.specs.Place.{Field, Place, members, mode, count, up, view, logLength, message}
 use Rattle.group.specs.Place.{held, delivered, acked, unsent, inFlight}
 use Rattle.group.specs.Layout.{Layout, words, PlaceIn, FieldIn}
-use Rattle.group.specs.Fit.{Fit, allAck}
+use Rattle.group.specs.Fit.{Fit}
 use Rattle.group.specs.Step.{Step, broadcast, send, receive, deliver, crash, detect, lose}
 use Rattle.group.specs.Refusals.{_else_, Holds, copy, isUp, enough}
 use Rattle.group.specs.Promises.{Allowed}

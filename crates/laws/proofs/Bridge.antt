@@ -1,23 +1,20 @@
 -- From words to sets: a step's writes change the words' sets just as the step changes sets.
-use mathlib.Core.Path.{_≡_, refl, sym, ap, ap₂, fun-ext, _∙_}
+use mathlib.Core.Path.{_≡_, refl, sym, ap, ap₂, _∙_}
 use mathlib.Core.Bool.{Bool, true, false, cond, not, _&&_, _||_, and-false, and-true}
-use mathlib.Core.List.{List, [], _∷_, _++_, map}
-use Prim.Native.Nat.{ℕ, zero, suc, _+_, _≤_, _<_}
-use native.Mathlib.Omega.{arith}
+use mathlib.Core.List.{List, [], _∷_}
+use Prim.Native.Nat.{ℕ}
 use lib.Dec.{eqb, ltb}
-use borrow.Author.Tests.{eq-eqb, eqb-true, eqb-false, ne-eqb}
+use borrow.Author.Tests.{eqb-true, eqb-false}
 use Rattle.sets.specs.Set.{has, with, without, withAll, allBelow}
 use Rattle.sets.proofs.Members.{has-with, has-without, has-with-all, has-all-below, has-none}
-use Rattle.group.specs.Place.{Field, Place, Words, Record, Write, _≔_}
-use Rattle.group.specs.Place.{sender, stamp, value, held, delivered, acked, unsent, inFlight}
+use Rattle.group.specs.Place.{Field, Words, Record, Write, _≔_}
+use Rattle.group.specs.Place.{sender, held, delivered, acked, unsent, inFlight}
 use Rattle.group.specs.Place.{members, mode, count, up, view, message}
-use Rattle.group.specs.Layout.{inRecord, run, index}
 use Rattle.group.specs.Writes.{fresh, sent, received}
-use Rattle.group.proofs.Places.{sameField, samePlace}
+use Rattle.group.proofs.Places.{sameField}
 use Rattle.group.proofs.Reading.{later}
-use Rattle.laws.proofs.Sets.{RecordSets, Sets, put, putAt, newRecord}
+use Rattle.laws.proofs.Sets.{RecordSets, Sets, put, newRecord}
 use Rattle.laws.proofs.Sets.{afterSend, afterReceive, afterDeliver, afterLose}
-use Rattle.laws.proofs.Sets.{inMessage}
 
 -- ---- the sets of words
 

@@ -1,14 +1,13 @@
 -- Demand 3, whole: no hypothesis but that the group was opened and the steps were accepted.
 use mathlib.Core.Path.{_≡_, sym, ap, subst, subst₂, _∙_}
-use mathlib.Core.Bool.{Bool, true}
+use mathlib.Core.Bool.{true}
 use mathlib.Core.List.{List}
 use Prim.Native.Nat.{ℕ}
 use Rattle.group.specs.Layout.{Layout, paper}
-use Rattle.group.specs.Opening.{answer, openOf}
 use Rattle.group.specs.Step.{Step}
 use Rattle.group.specs.Promises.{Allowed, after, OpenPromise}
-use Rattle.group.specs.Lists.{outcome, runOf, RunPromise}
-use Rattle.settler.specs.Settling.{ending, settleOf, SettlePromise}
+use Rattle.group.specs.Lists.{RunPromise}
+use Rattle.settler.specs.Settling.{settleOf, SettlePromise}
 use Rattle.laws.specs.Runs.{Run}
 use Rattle.laws.specs.Settler.{chosen}
 use Rattle.laws.specs.Demand.{Reached, Finished}

@@ -1,8 +1,8 @@
 -- One end for every order: two finished runs are equally long and leave banks that are the same but for the order in
 -- logs.
-use mathlib.Core.Path.{_≡_, refl, sym, ap, _∙_, subst}
+use mathlib.Core.Path.{_≡_, refl, sym, ap, _∙_}
 use mathlib.Core.Bool.{Bool, true, false, cond, true≢false}
-use mathlib.Core.List.{List, [], _∷_, _++_}
+use mathlib.Core.List.{List, _++_}
 use Prim.Native.Nat.{ℕ, zero, suc, _+_, _≤_, _<_}
 use native.Mathlib.Nat.{lt-irrefl}
 use native.Mathlib.Omega.{arith}
@@ -19,7 +19,7 @@ use Rattle.group.specs.Step.{Step, broadcast, send, receive, deliver, crash, de
 use Rattle.group.specs.Refusals.{hasDelivered}
 use Rattle.group.specs.Logs.{logOf}
 use Rattle.group.specs.Promises.{Allowed, after}
-use Rattle.laws.specs.Runs.{Run, done, next, Ended, Settling, settles}
+use Rattle.laws.specs.Runs.{Run, done, next, Ended, Settling}
 use Rattle.laws.specs.Logs.{occurs, LogsRight}
 use Rattle.laws.specs.Demand.{Reached, Finished, isEntry, Alike}
 use Rattle.laws.proofs.Sets.{Sets, Ok}

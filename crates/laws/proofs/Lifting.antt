@@ -1,5 +1,5 @@
 -- Runs of a bank are runs of its sets.
-use mathlib.Core.Path.{_≡_, sym, subst}
+use mathlib.Core.Path.{subst}
 use mathlib.Core.List.{List}
 use Prim.Native.Nat.{ℕ}
 use Rattle.group.specs.Layout.{Layout}

@@ -1,7 +1,7 @@
 -- What a caller of opening and lists has: a bank reached by accepted steps from an opened group.
-use mathlib.Core.Path.{_≡_, refl, sym, ap, subst, _∙_}
-use mathlib.Core.Bool.{Bool, true, false, cond, _&&_, _||_, false≢true}
-use mathlib.Core.List.{List, [], _∷_, _++_}
+use mathlib.Core.Path.{_≡_, refl, ap, subst}
+use mathlib.Core.Bool.{Bool, true, false, cond}
+use mathlib.Core.List.{List, [], _∷_}
 use mathlib.Core.Option.{Option, none, some}
 use Prim.Native.Nat.{ℕ, _+_, _%_}
 use native.Mathlib.Omega.{arith}
@@ -9,8 +9,8 @@ use lib.Dec.{eqb}
 use lib.ListN.{length}
 use borrow.Author.Tests.{eq-eqb, eqb-true}
 use Rattle.group.specs.Layout.{Layout, size}
-use Rattle.group.specs.Fit.{Fit, fit, isSize, isMode}
-use Rattle.group.specs.Opening.{Answer, answer, openRefusal, opened, openOf}
+use Rattle.group.specs.Fit.{fit, isSize, isMode}
+use Rattle.group.specs.Opening.{opened, openOf}
 use Rattle.group.specs.Step.{Step, asked}
 use Rattle.group.specs.Refusals.{_else_}
 use Rattle.group.specs.Promises.{Allowed, after, askedRefusal, askedAfter, refusalOf, stepOf}
@@ -18,7 +18,6 @@ use Rattle.group.specs.Lists.{Outcome, outcome, runFrom, runOf}
 use Rattle.group.proofs.Rules.{pass, all-hold}
 use Rattle.group.proofs.Fitness.{allowed-step, not-refused}
 use Rattle.laws.specs.Runs.{Run, done, next}
-use Rattle.laws.specs.Demand.{Reached}
 
 module _ (L : Layout) where
   -- some accepted steps lead from b to c

@@ -1,4 +1,4 @@
--- What an opened group has and every step keeps holds at every moment: that the bank is fit, its size and its mode.
+-- What an opened group has and every step keeps holds at every moment: that the bank is fit; and what opening writes.
 use mathlib.Core.Path.{_≡_, refl, ap, _∙_}
 use mathlib.Core.Bool.{Bool, true, not}
 use mathlib.Core.List.{List, [], _∷_, _++_, append-nil}
@@ -20,7 +20,6 @@ use Rattle.group.proofs.WritesIn.{opening-in}
 use Rattle.group.proofs.Kept.{fit-opened, fit-after}
 use Rattle.group.proofs.Names.{views-aside, later-aside}
 use Rattle.laws.specs.Runs.{Run, done, next}
-use Rattle.laws.proofs.Untouched.{untouched}
 
 -- P speaks of the steps taken and of the state that they led to
 module _ {S E : Type 0} {allows : S → E → Type 0} {act : S → E → S} (P : List E → S → Type 0)
@@ -56,10 +55,3 @@ opened-word L n k e p h other =
 module _ (L : Layout) (n k : ℕ) (fits : isSize L n ≡ true) (known : isMode k ≡ true) where
   pub fit-run : {es : List Step} {b : List ℕ} → Run (Allowed L) (after L) (opened L n k) es b → Fit L b
   fit-run r = along (λ ds b. Fit L b) (λ ds b e a f. fit-after L b e a) (fit-opened L n k fits known) r
-
-  pub header-run : {es : List Step} {b : List ℕ} → Run (Allowed L) (after L) (opened L n k) es b
-      → (words L b members ≡ n) × (words L b mode ≡ k)
-  header-run r =
-      along (λ ds b. (words L b members ≡ n) × (words L b mode ≡ k))
-      (λ ds b e a h. (untouched L b e a members tt refl ∙ h .0, untouched L b e a mode tt refl ∙ h .1))
-      (opened-word L n k fits members tt refl, opened-word L n k fits mode tt refl) r

@@ -1,19 +1,17 @@
 -- Each allowed step of a bank is that step of its sets.
-use mathlib.Core.Path.{_≡_, refl, sym, ap, ap₂, subst, fun-ext, _∙_}
-use mathlib.Core.Bool.{Bool, true, false, cond, _&&_, and-true, true≢false}
-use mathlib.Core.List.{List, [], _∷_, _++_, map}
+use mathlib.Core.Path.{_≡_, refl, ap, subst, fun-ext, _∙_}
+use mathlib.Core.Bool.{Bool, true, false, cond, _&&_, and-true}
+use mathlib.Core.List.{List, [], _∷_}
 use Prim.Native.Nat.{ℕ, _+_, _<_}
-use native.Mathlib.Omega.{arith}
 use lib.Dec.{eqb}
 use borrow.Author.Tests.{eqb-true}
 use Rattle.sets.specs.Set.{has, with, without}
 use Rattle.group.specs.Place.{Field, Words, Record, Write, _≔_}
 use Rattle.group.specs.Place.{delivered, inFlight, members, mode, count, up, view, message}
-use Rattle.group.specs.Layout.{Layout, words, fields, inRecord, PlaceIn, FieldIn}
+use Rattle.group.specs.Layout.{Layout, words, inRecord, FieldIn}
 use Rattle.group.specs.Step.{Step, broadcast, send, receive, deliver, crash, detect, lose}
 use Rattle.group.specs.Writes.{fresh, freshRecord, sent, received, writes}
 use Rattle.group.specs.Promises.{Allowed, after}
-use Rattle.group.proofs.Places.{key}
 use Rattle.group.proofs.Reading.{later, later-append}
 use Rattle.group.proofs.Bounds.{controller-below}
 use Rattle.laws.proofs.Sets.{RecordSets, Sets, setsWith, inMessage, act}

@@ -1,3 +1,4 @@
+-- What holds of every run, as statements, in the order in which to read them.
 pub mod Runs
 pub mod Logs
 pub mod History

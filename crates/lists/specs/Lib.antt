@@ -1,1 +1,2 @@
+-- The definitions of lists of step records.
 pub mod Records

@@ -1,14 +1,14 @@
 -- What the C face promises of bytes: the call on the bank that they stand for. A refusal leaves every byte.
 use Prim.Native.Nat.{ℕ, _*_}
 use mathlib.Core.Path.{_≡_}
-use mathlib.Core.Bool.{Bool, true, false, cond}
+use mathlib.Core.Bool.{Bool, cond}
 use mathlib.Core.List.{List}
 use lib.Dec.{eqb}
 use lib.ListN.{length}
 use Rattle.group.specs.Layout.{paper, size}
 use Rattle.group.specs.Opening.{Answer, answer, openOf}
 use Rattle.group.specs.Promises.{stepOf}
-use Rattle.settler.specs.Settling.{Ending, ending, settleOf}
+use Rattle.settler.specs.Settling.{Ending, settleOf}
 use Rattle.day.specs.Tallies
 use Rattle.loargwen.specs.Bytes.{wordsOf, bytesOf}
 

@@ -10,42 +10,54 @@ use Rattle.report.specs.Text.{decimal, hex}
 
 -- ---- the words of the lines, in ASCII, with the blanks around them
 
+-- " "
 abbrev pub blank : List ℕ
 blank = 32 ∷ []
 
 abbrev pub newline : List ℕ
 newline = 10 ∷ []
 
+-- "group "
 abbrev pub sayGroup : List ℕ
 sayGroup = 103 ∷ 114 ∷ 111 ∷ 117 ∷ 112 ∷ 32 ∷ []
 
+-- "msg "
 abbrev pub sayMsg : List ℕ
 sayMsg = 109 ∷ 115 ∷ 103 ∷ 32 ∷ []
 
+-- " from "
 abbrev pub sayFrom : List ℕ
 sayFrom = 32 ∷ 102 ∷ 114 ∷ 111 ∷ 109 ∷ 32 ∷ []
 
+-- " at "
 abbrev pub sayAt : List ℕ
 sayAt = 32 ∷ 97 ∷ 116 ∷ 32 ∷ []
 
+-- " value "
 abbrev pub sayValue : List ℕ
 sayValue = 32 ∷ 118 ∷ 97 ∷ 108 ∷ 117 ∷ 101 ∷ 32 ∷ []
 
+-- " held "
 abbrev pub sayHeld : List ℕ
 sayHeld = 32 ∷ 104 ∷ 101 ∷ 108 ∷ 100 ∷ 32 ∷ []
 
+-- " delivered "
 abbrev pub sayDelivered : List ℕ
 sayDelivered = 32 ∷ 100 ∷ 101 ∷ 108 ∷ 105 ∷ 118 ∷ 101 ∷ 114 ∷ 101 ∷ 100 ∷ 32 ∷ []
 
+-- "ctl "
 abbrev pub sayCtl : List ℕ
 sayCtl = 99 ∷ 116 ∷ 108 ∷ 32 ∷ []
 
+-- " up log"
 abbrev pub sayUpLog : List ℕ
 sayUpLog = 32 ∷ 117 ∷ 112 ∷ 32 ∷ 108 ∷ 111 ∷ 103 ∷ []
 
+-- " down log"
 abbrev pub sayDownLog : List ℕ
 sayDownLog = 32 ∷ 100 ∷ 111 ∷ 119 ∷ 110 ∷ 32 ∷ 108 ∷ 111 ∷ 103 ∷ []
 
+-- "end "
 abbrev pub sayEnd : List ℕ
 sayEnd = 101 ∷ 110 ∷ 100 ∷ 32 ∷ []
 

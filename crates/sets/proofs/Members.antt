@@ -1,12 +1,11 @@
--- Which controllers a set has after each operation, and how large its word can grow.
+-- Which controllers a set has after each operation.
 use mathlib.Core.Path.{_≡_, sym, _∙_}
 use mathlib.Core.Bool.{false, not, _&&_, _||_}
 use Prim.Native.Nat.{ℕ, zero, suc, _-_, _/_, _%_, _^_, _≤_, _<_, zero-le}
-use native.Mathlib.Nat.{div-eq-of-lt, lt-of-le-of-lt, lt-of-lt-of-le, sub-le}
+use native.Mathlib.Nat.{div-eq-of-lt, lt-of-lt-of-le}
 use native.Mathlib.Omega.{arith}
 use lib.Dec.{eqb, ltb, lit<, eqb·zero-suc, eqb·suc-zero, eqb·suc-suc, leb·zero, leb·suc-zero, leb·suc-suc}
-use lib.Pow.{ones-lt, pow-lt, pow-mono, pow-pos}
-use lib.Bits.{or-lt}
+use lib.Pow.{pow-mono, pow-pos}
 use borrow.Author.Tests.{le-ltb, lt-ltb}
 use Rattle.sets.specs.Set.{has, with, without, allBelow, cut, withAll, join}
 use Rattle.sets.proofs.Digits.{has-low, has-half, has-or, has-and, has-less}
@@ -49,21 +48,6 @@ has-with-all w n j = rw (with-all-or, has-or, has-all-below)
 
 pub has-cut : (w n j : ℕ) → has (cut w n) j ≡ (has w j && ltb j n)
 has-cut w n j = rw (cut-and, has-and, has-all-below)
-
--- ---- sizes
-
-pub with-fits : (w i k : ℕ) → w < 2 ^ k → i < k → with w i < 2 ^ k
-with-fits w i k h l = rw with-or (or-lt k w (2 ^ i) h (pow-lt l))
-
-pub without-fits : (w i k : ℕ) → w < 2 ^ k → without w i < 2 ^ k
-without-fits w i k h = rw without-less (lt-of-le-of-lt (sub-le _ _) h)
-
-pub all-below-fits : (n k : ℕ) → n ≤ k → allBelow n < 2 ^ k
-unfolding allBelow
-all-below-fits n k l = lt-of-lt-of-le (ones-lt n) (pow-mono l)
-
-pub with-all-fits : (w n k : ℕ) → w < 2 ^ k → n ≤ k → withAll w n < 2 ^ k
-with-all-fits w n k h l = rw with-all-or (or-lt k w (allBelow n) h (all-below-fits n k l))
 
 -- ---- a word of sixteen bits
 

@@ -1,1 +1,2 @@
+-- The definitions of sets of controllers.
 pub mod Set

@@ -1,5 +1,5 @@
 -- step: the refusal decides; where it is 0 the writes are done, and else the bank is as it was.
-use mathlib.Core.Path.{_≡_, refl, sym, ap₂, _∙_}
+use mathlib.Core.Path.{refl, sym, ap₂, _∙_}
 use borrow.Author.Tests.{eq-eqb, ne-eqb}
 use Rattle.group.specs.Opening.{answer}
 use Rattle.group.specs.Promises.{stepOf}

@@ -1,6 +1,6 @@
 -- fill: the slice keeps its length, and each turn goes one word on.
 use Prim.Native.Nat.{_-_, _≤_}
-use mathlib.Core.Path.{_≡_, refl, _∙_}
+use mathlib.Core.Path.{_≡_}
 use native.Mathlib.Omega.{arith}
 use lib.ListN.{length, length-set}
 use Rattle.cases.proofs.settling.fill.Statement.{statement}

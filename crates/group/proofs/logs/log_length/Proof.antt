@@ -1,5 +1,4 @@
 -- log_length: the two tests in their order, and the length where both pass.
-use Prim.Native.Nat.{_<_}
 use mathlib.Core.Path.{_≡_, sym, _∙_}
 use mathlib.Core.Bool.{true}
 use native.Mathlib.Omega.{arith}

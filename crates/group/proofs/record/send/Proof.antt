@@ -1,9 +1,8 @@
 -- send: the two words are read before either is written, so the stores are the definition's writes.
 use borrow.Author.Needs.{needs}
-use Prim.Native.Nat.{ℕ, _+_, _-_, _*_, _<_, _≤_}
+use Prim.Native.Nat.{_-_, _<_}
 use native.Mathlib.Omega.{arith}
 use lib.ListN.{length-set}
-use mathlib.Core.Path.{_≡_, refl, sym, ap, ap₂, _∙_}
 use Rattle.sets.proofs.Members.{join-with}
 use Rattle.group.proofs.record.send.Statement.{statement}
 use Rattle.group.proofs.record.send.Tie as tie
