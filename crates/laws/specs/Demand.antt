@@ -1,16 +1,17 @@
 -- What demand 3 speaks of: a group that was opened, any accepted steps, then settling steps until none is left.
-use Prim.Native.Nat.{ℕ, _*_, _≤_, _<_}
+use Prim.Native.Nat.{ℕ, zero, suc, _*_, _≤_, _<_}
 use mathlib.Core.Path.{_≡_}
 use mathlib.Core.Bool.{Bool, true, false}
 use mathlib.Core.Logic.{_⊎_}
-use mathlib.Core.List.{List}
+use mathlib.Core.List.{List, [], _∷_}
+use mathlib.Core.Option.{Option}
 use lib.ListN.{length}
 use Rattle.sets.specs.Set.{countBelow}
 use Rattle.group.specs.Place.{Place, members, mode, count, up, view, logLength, log, message}
 use Rattle.group.specs.Layout.{Layout, words, PlaceIn}
 use Rattle.group.specs.Fit.{isSize, isMode, allAck}
 use Rattle.group.specs.Opening.{opened}
-use Rattle.group.specs.Step.{Step}
+use Rattle.group.specs.Step.{Step, asked}
 use Rattle.group.specs.Logs.{logOf}
 use Rattle.group.specs.Promises.{Allowed, after}
 use Rattle.laws.specs.Runs.{Run, Ended, Settling}
@@ -50,3 +51,12 @@ pub record Alike (L : Layout) (x y : List ℕ) : Type 0 where
 abbrev pub Quorum : Layout → List ℕ → Type 0
 Quorum L b =
     (words L b mode ≡ allAck) ⊎ (words L b members < 2 * countBelow (words L b up) (words L b members))
+
+-- what the first a steps of a list of words ask for, four words a step
+abbrev pub asksFor : ℕ → List ℕ → List (Option Step)
+asksFor zero steps = []
+asksFor (suc a) (kind ∷ x ∷ y ∷ z ∷ rest) = asked kind x y z ∷ asksFor a rest
+asksFor (suc a) [] = []
+asksFor (suc a) (kind ∷ []) = []
+asksFor (suc a) (kind ∷ x ∷ []) = []
+asksFor (suc a) (kind ∷ x ∷ y ∷ []) = []
