@@ -1,4 +1,4 @@
-//! Links libloargwen.a when the feature `archive` is on and liblists.a when `lists` is, from the folder named by
+//! Links libloargwen.a when the feature `archive` is on and libstep_records.a when `step_records` is, from the folder named by
 //! LOARGWEN_LIB.
 
 use std::env;
@@ -7,7 +7,7 @@ use std::path::Path;
 fn main() {
     println!("cargo:rerun-if-env-changed=LOARGWEN_LIB");
     println!("cargo:rerun-if-changed=build.rs");
-    for (feature, library) in [("ARCHIVE", "loargwen"), ("LISTS", "lists")] {
+    for (feature, library) in [("ARCHIVE", "loargwen"), ("STEP_RECORDS", "step_records")] {
         if env::var_os(format!("CARGO_FEATURE_{feature}")).is_some() {
             link(library);
         }

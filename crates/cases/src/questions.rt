@@ -88,10 +88,13 @@ fn say_day(what: &[u8], t: day::DayTally) {
 
 fn days() {
     let bank = read_twice();
-    say_day(b"day 681", day::tally(&bank, 1, 681));
-    say_day(b"day 682", day::tally(&bank, 1, 682));
-    say_day(b"day 683", day::tally(&bank, 1, 683));
-    say_day(b"day 683 of controller 2 of 2", day::tally(&bank, 2, 683));
+    say_day(b"day 681", day::tally_day(&bank, 1, 681));
+    say_day(b"day 682", day::tally_day(&bank, 1, 682));
+    say_day(b"day 683", day::tally_day(&bank, 1, 683));
+    say_day(
+        b"day 683 of controller 2 of 2",
+        day::tally_day(&bank, 2, 683),
+    );
 }
 
 // The second entry of the log is no message, or the bank is unfit.
@@ -100,10 +103,10 @@ fn spoilt_days() {
     bank[Bank::LOGS + Bank::LOG + 1] = 2;
     say_day(
         b"day of a log with an entry not given",
-        day::tally(&bank, 1, 682),
+        day::tally_day(&bank, 1, 682),
     );
-    bank[Bank::MEMBERS] = 0;
-    say_day(b"day in an unfit bank", day::tally(&bank, 1, 683));
+    bank[Bank::N] = 0;
+    say_day(b"day in an unfit bank", day::tally_day(&bank, 1, 683));
 }
 
 pub(crate) fn show() {

@@ -16,19 +16,19 @@ use Rattle.group.specs.Refusals.{Rule, _else_, firstBroken, Holds, isController
 use Rattle.group.specs.Logs.{logRefusal, logOf}
 use Rattle.group.proofs.Rules.{pass, stop, first-decides, rest-decides, all-hold, none-broken}
 use Rattle.day.specs.Days.{lastDay}
-use Rattle.day.specs.Tallies.{Answer, answer, empty, addEntry, addAll, allGiven}
+use Rattle.day.specs.Tallies.{DayAnswer, dayAnswer, empty, addEntry, addAll, allGiven}
 use Rattle.day.specs.Tallies.{tallyRefusal, tallyOf, TallyPromise}
 use Rattle.day.specs.declared.entries.Tally.{Tally}
 
 -- the answer where the tests before the log passed: from a tally on, over the entries that are left
-abbrev pub tallyFrom : ℕ → Words → Tally → List ℕ → Answer
-tallyFrom day w t ms = cond (allGiven w ms) (answer 0 (addAll day w t ms)) (answer 1 empty)
+abbrev pub tallyFrom : ℕ → Words → Tally → List ℕ → DayAnswer
+tallyFrom day w t ms = cond (allGiven w ms) (dayAnswer 0 (addAll day w t ms)) (dayAnswer 1 empty)
 
 -- a tally under the number that its question gets
-abbrev under : ℕ → Tally → Answer
-under r t = answer r (cond (eqb r 0) t empty)
+abbrev under : ℕ → Tally → DayAnswer
+under r t = dayAnswer r (cond (eqb r 0) t empty)
 
-under-last : (given : Bool) (t : Tally) → under (cond given 0 1) t ≡ cond given (answer 0 t) (answer 1 empty)
+under-last : (given : Bool) (t : Tally) → under (cond given 0 1) t ≡ cond given (dayAnswer 0 t) (dayAnswer 1 empty)
 under-last true t = refl
 under-last false t = refl
 
@@ -39,8 +39,8 @@ module _ (L : Layout) (b : List ℕ) (who day : ℕ) where
   under-refusal r e = ap (λ x. under x (addAll day (words L b) empty (logOf L b who))) e
 
   -- a refused tally is empty
-  pub refused-empty : (r : ℕ) → tallyRefusal L b who day ≡ r → (r ≡ 0 → ⊥) → tallyOf L b who day ≡ answer r empty
-  refused-empty r e z = under-refusal r e ∙ ap (answer r) (stop _ (ne-eqb r 0 z) refl)
+  pub refused-empty : (r : ℕ) → tallyRefusal L b who day ≡ r → (r ≡ 0 → ⊥) → tallyOf L b who day ≡ dayAnswer r empty
+  refused-empty r e z = under-refusal r e ∙ ap (dayAnswer r) (stop _ (ne-eqb r 0 z) refl)
 
   -- the tests in two parts: those of the log's length, and the day's own
   abbrev ofLog : List Rule
@@ -49,13 +49,13 @@ module _ (L : Layout) (b : List ℕ) (who day : ℕ) where
   abbrev ofDay : List Rule
   ofDay = leb day lastDay else 14 ∷ allGiven (words L b) (logOf L b who) else 1 ∷ []
 
-  pub tally-unasked : (r : ℕ) → logRefusal L b who ≡ r → (r ≡ 0 → ⊥) → tallyOf L b who day ≡ answer r empty
+  pub tally-unasked : (r : ℕ) → logRefusal L b who ≡ r → (r ≡ 0 → ⊥) → tallyOf L b who day ≡ dayAnswer r empty
   tally-unasked r e z = refused-empty r (first-decides ofLog ofDay (λ q. z (sym e ∙ q)) ∙ e) z
 
   day-decides : logRefusal L b who ≡ 0 → tallyRefusal L b who day ≡ firstBroken ofDay
   day-decides e = rest-decides ofLog ofDay (tt, (tt, tt)) e
 
-  pub tally-late : logRefusal L b who ≡ 0 → lastDay < day → tallyOf L b who day ≡ answer 14 empty
+  pub tally-late : logRefusal L b who ≡ 0 → lastDay < day → tallyOf L b who day ≡ dayAnswer 14 empty
   tally-late e h = refused-empty 14 (day-decides e ∙ stop _ (lt-leb day lastDay h) refl) (λ q. omega arith)
 
   pub tally-asked : logRefusal L b who ≡ 0 → day ≤ lastDay
@@ -66,7 +66,7 @@ module _ (L : Layout) (b : List ℕ) (who day : ℕ) where
 
   -- a tally that is not refused is the whole log's, and its question of the log is not refused either
   pub tally-whole : tallyRefusal L b who day ≡ 0
-      → tallyOf L b who day ≡ answer 0 (addAll day (words L b) empty (logOf L b who))
+      → tallyOf L b who day ≡ dayAnswer 0 (addAll day (words L b) empty (logOf L b who))
   tally-whole e = under-refusal 0 e
 
   tests-hold : tallyRefusal L b who day ≡ 0 → Holds (ofLog ++ ofDay)
@@ -99,10 +99,10 @@ module _ (day : ℕ) (w : Words) (t : Tally) (ms : List ℕ) (k : ℕ) where
   unfolding allGiven addAll
   from-given h e q = rw (add-one k, drop-cons ms k 0 h, e, q)
 
-  pub from-stranger : k < length ms → isMessage w (getD ms k 0) ≡ false → tallyFrom day w t (drop k ms) ≡ answer 1 empty
+  pub from-stranger : k < length ms → isMessage w (getD ms k 0) ≡ false → tallyFrom day w t (drop k ms) ≡ dayAnswer 1 empty
   unfolding allGiven
   from-stranger h e = rw (drop-cons ms k 0, e)
 
-  pub from-end : length ms ≤ k → tallyFrom day w t (drop k ms) ≡ answer 0 t
+  pub from-end : length ms ≤ k → tallyFrom day w t (drop k ms) ≡ dayAnswer 0 t
   unfolding allGiven addAll
   from-end h = rw (drop-of-length-le ms h)

@@ -9,10 +9,10 @@ use lib.ListN.{length, drop, length-drop}
 use lib.Seq.{length-take-le}
 use Rattle.group.specs.Place.{Place, Words, log, message, stamp, value}
 use Rattle.group.specs.Layout.{paper, address, words}
-use Rattle.group.specs.Logs.{logRefusal, lengthOf, logOf}
+use Rattle.group.specs.Logs.{logRefusal, usedLength, logOf}
 use Rattle.group.proofs.Asking.{log-asked, whole-length}
 use Rattle.day.specs.Days.{dayOf, lastDay}
-use Rattle.day.specs.Tallies.{tally, addEntry, addAll, tallyRefusal, tallyOf}
+use Rattle.day.specs.Tallies.{tallied, addEntry, addAll, tallyRefusal, tallyOf}
 use Rattle.day.specs.Season.{sumOver, season, AreWords, SeasonAddsUp}
 use Rattle.day.proofs.Asking.{tally-whole, log-free, every-day}
 use Rattle.day.proofs.Days.{in-season}
@@ -26,13 +26,13 @@ taken day s n = cond (eqb (dayOf s) day) n 0
 
 -- an entry more, where the two words are not at their ends
 entry-adds : (day n x s v : ℕ) → n < 65535 → x + v ≤ 4294967295
-    → addEntry day (tally n x) s v ≡ tally (n + taken day s 1) (x + taken day s v)
+    → addEntry day (tallied n x) s v ≡ tallied (n + taken day s 1) (x + taken day s v)
 entry-adds day n x s v h k = go (eqb (dayOf s) day)
   where
-    go : (t : Bool) → cond t (tally (min (n + 1) 65535) (min (x + v) 4294967295)) (tally n x)
-        ≡ tally (n + cond t 1 0) (x + cond t v 0)
-    go true = ap₂ tally (omega arith) (omega arith)
-    go false = ap₂ tally (omega arith) (omega arith)
+    go : (t : Bool) → cond t (tallied (min (n + 1) 65535) (min (x + v) 4294967295)) (tallied n x)
+        ≡ tallied (n + cond t 1 0) (x + cond t v 0)
+    go true = ap₂ tallied (omega arith) (omega arith)
+    go false = ap₂ tallied (omega arith) (omega arith)
 
 taken-le : (day s n : ℕ) → taken day s n ≤ n
 taken-le day s n = go (eqb (dayOf s) day)
@@ -50,9 +50,9 @@ valueOf w m = w (message m value)
 
 tally-sums : (w : Words) → ((p : Place) → w p < 65536) → (day n x : ℕ) (ms : List ℕ)
     → n + length ms ≤ 65535 → x + 65535 * length ms ≤ 4294967295
-    → addAll day w (tally n x) ms ≡ tally (n + over w (λ m. 1) day ms) (x + over w (valueOf w) day ms)
+    → addAll day w (tallied n x) ms ≡ tallied (n + over w (λ m. 1) day ms) (x + over w (valueOf w) day ms)
 unfolding addAll sumOver
-tally-sums w small day n x [] h k = ap₂ tally (omega arith) (omega arith)
+tally-sums w small day n x [] h k = ap₂ tallied (omega arith) (omega arith)
 tally-sums w small day n x (m ∷ ms) h k =
     let s = w (message m stamp) in
     let v = valueOf w m in
@@ -61,7 +61,7 @@ tally-sums w small day n x (m ∷ ms) h k =
     ∙ tally-sums w small day (n + taken day s 1) (x + taken day s v) ms
     (omega (arith, taken-le day s 1))
     (omega (arith, taken-le day s v))
-    ∙ ap₂ tally (omega arith) (omega arith)
+    ∙ ap₂ tallied (omega arith) (omega arith)
 
 -- ---- the season
 
@@ -80,12 +80,12 @@ season-takes w small ms f g e =
 
 -- a log of the paper's bank is as long as it says, and no longer than there are messages
 pub log-whole : (b : List ℕ) (who : ℕ) → logRefusal paper b who ≡ 0
-    → (length (logOf paper b who) ≡ lengthOf paper b who) × (length (logOf paper b who) ≤ 32)
+    → (length (logOf paper b who) ≡ usedLength paper b who) × (length (logOf paper b who) ≤ 32)
 log-whole b who e =
     let a = log-asked paper b who e in
     let n = whole-length paper b who e in
-    let r : lengthOf paper b who ≤ length (drop (address paper (log who 0)) b) = rw length-drop (omega arith) in
-    let l = length-take-le (lengthOf paper b who) (drop (address paper (log who 0)) b) r in
+    let r : usedLength paper b who ≤ length (drop (address paper (log who 0)) b) = rw length-drop (omega arith) in
+    let l = length-take-le (usedLength paper b who) (drop (address paper (log who 0)) b) r in
     (l, omega arith)
 
 module _ (b : List ℕ) (who day : ℕ) (small : AreWords b) (e : tallyRefusal paper b who day ≡ 0) where
@@ -93,18 +93,18 @@ module _ (b : List ℕ) (who day : ℕ) (small : AreWords b) (e : tallyRefusal p
   day-sums : (d : ℕ) → d ≤ lastDay
       → let w = words paper b in
       tallyOf paper b who d .tally
-      ≡ tally (over w (λ m. 1) d (logOf paper b who)) (over w (valueOf w) d (logOf paper b who))
+      ≡ tallied (over w (λ m. 1) d (logOf paper b who)) (over w (valueOf w) d (logOf paper b who))
   day-sums d h =
       let l = log-whole b who (log-free paper b who day e) .1 in
       ap (λ a. a .tally) (tally-whole paper b who d (every-day paper b who day e d h))
       ∙ tally-sums (words paper b) (λ p. small (address paper p)) d 0 0 (logOf paper b who) (omega arith) (omega arith)
-      ∙ ap₂ tally (omega arith) (omega arith)
+      ∙ ap₂ tallied (omega arith) (omega arith)
 
   season-of : (f g : ℕ → ℕ) → ((d : ℕ) → d ≤ lastDay → g d ≡ over (words paper b) f d (logOf paper b who))
       → sumOver g season ≡ sumOver f (logOf paper b who)
   season-of f g q = season-takes (words paper b) (λ p. small (address paper p)) (logOf paper b who) f g q
 
-  season-counts : sumOver (λ d. tallyOf paper b who d .tally .count) season ≡ lengthOf paper b who
+  season-counts : sumOver (λ d. tallyOf paper b who d .tally .count) season ≡ usedLength paper b who
   season-counts =
       season-of (λ m. 1) _ (λ d h. ap (λ t. t .count) (day-sums d h))
       ∙ sum-ones (logOf paper b who)

@@ -5,7 +5,7 @@ use mathlib.Core.List.{List, [], _∷_}
 use lib.ListN.{getD}
 use Rattle.group.specs.Place.{message, value}
 use Rattle.group.specs.Layout.{paper, words, upFrom}
-use Rattle.group.specs.Logs.{lengthOf, logOf}
+use Rattle.group.specs.Logs.{usedLength, logOf}
 use Rattle.day.specs.Days.{lastDay}
 use Rattle.day.specs.Tallies.{tallyRefusal, tallyOf}
 
@@ -27,6 +27,6 @@ SeasonAddsUp =
     (b : List ℕ) (who day : ℕ)
     → AreWords b
     → tallyRefusal paper b who day ≡ 0
-    → (sumOver (λ d. tallyOf paper b who d .tally .count) season ≡ lengthOf paper b who)
+    → (sumOver (λ d. tallyOf paper b who d .tally .count) season ≡ usedLength paper b who)
     × (sumOver (λ d. tallyOf paper b who d .tally .sum) season
     ≡ sumOver (λ m. words paper b (message m value)) (logOf paper b who))

@@ -12,16 +12,16 @@ use Rattle.group.specs.Logs.{logOf}
 use Rattle.day.specs.Days.{dayOf, lastDay}
 use Rattle.day.specs.declared.entries.Tally.{Tally}
 
-abbrev pub tally : ℕ → ℕ → Tally
-tally n s = record { count = n; sum = s }
+abbrev pub tallied : ℕ → ℕ → Tally
+tallied n s = record { count = n; sum = s }
 
 abbrev pub empty : Tally
-empty = tally 0 0
+empty = tallied 0 0
 
 -- one log entry more; the two words count as far as they reach, which no log of a bank comes near
 abbrev pub addEntry : ℕ → Tally → ℕ → ℕ → Tally
 addEntry day t s v =
-    cond (eqb (dayOf s) day) (tally (min (t .count + 1) 65535) (min (t .sum + v) 4294967295)) t
+    cond (eqb (dayOf s) day) (tallied (min (t .count + 1) 65535) (min (t .sum + v) 4294967295)) t
 
 -- the entries of a log one after another, each a message number
 unfoldable pub addAll : ℕ → Words → Tally → List ℕ → Tally
@@ -43,17 +43,17 @@ tallyRefusal L b who day =
     ∷ [])
 
 -- the refusal, and the tally, which is empty where the question is refused
-pub record Answer : Type 0 where
+pub record DayAnswer : Type 0 where
   pub refusal : ℕ
   pub tally : Tally
 
-abbrev pub answer : ℕ → Tally → Answer
-answer r t = record { refusal = r; tally = t }
+abbrev pub dayAnswer : ℕ → Tally → DayAnswer
+dayAnswer r t = record { refusal = r; tally = t }
 
-unfoldable pub tallyOf : Layout → List ℕ → ℕ → ℕ → Answer
+unfoldable pub tallyOf : Layout → List ℕ → ℕ → ℕ → DayAnswer
 tallyOf L b who day =
-    answer (tallyRefusal L b who day)
+    dayAnswer (tallyRefusal L b who day)
     (cond (eqb (tallyRefusal L b who day) 0) (addAll day (words L b) empty (logOf L b who)) empty)
 
 abbrev pub TallyPromise : List ℕ → ℕ → ℕ → ℕ → ℕ → ℕ → Type 0
-TallyPromise b who day r n s = answer r (tally n s) ≡ tallyOf paper b who day
+TallyPromise b who day r n s = dayAnswer r (tallied n s) ≡ tallyOf paper b who day

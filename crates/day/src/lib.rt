@@ -25,7 +25,7 @@ fn refused(number: u16) -> DayTally
 }
 
 // The count and the sum of a controller's log on a day.
-pub fn tally(bank: &[u16], who: u16, day: u16) -> DayTally
+pub fn tally_day(bank: &[u16], who: u16, day: u16) -> DayTally
     ensures { λ r. ⌜ TallyPromise (now (bank .entry)) who day (r .refusal) (r .count) (r .sum) ⌝ }
 {
     let l = group::log_length(bank, who);

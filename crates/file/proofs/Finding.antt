@@ -7,7 +7,7 @@ use native.Mathlib.Omega.{arith}
 use lib.Dec.{eqb, leb}
 use lib.ListN.{length}
 use borrow.Author.Tests.{le-leb, lt-leb, leb-true, eq-eqb, ne-eqb, not-false}
-use Rattle.file.specs.Records.{Found, end, bad, got, wordAt, numberAt, openKind, lengthOf, wellCut, findAt, begun}
+use Rattle.file.specs.Records.{Found, end, bad, got, wordAt, numberAt, openKind, recordLength, wellCut, findAt, begun}
 
 module _ (s : List ℕ) (i : ℕ) where
   pub finds-end : length s ≤ i → end ≡ findAt s i
@@ -20,22 +20,22 @@ module _ (s : List ℕ) (i : ℕ) where
     finds-cut e = rw (lt-leb (length s) i here, e)
 
     module _ (cut : wellCut s i ≡ true) (k : ℕ) (is : k ≡ wordAt s (i + 2)) where
-      pub finds-unknown : lengthOf k ≡ 0 → bad 2 ≡ findAt s i
+      pub finds-unknown : recordLength k ≡ 0 → bad 2 ≡ findAt s i
       unfolding findAt
       finds-unknown e = rw (lt-leb (length s) i here, cut, ← is, eq-eqb _ _ e)
 
       pub finds-open : k ≡ openKind → bad 2 ≡ findAt s i
-      unfolding findAt lengthOf
+      unfolding findAt recordLength
       finds-open e = rw (lt-leb (length s) i here, cut, ← is, e)
 
-      module _ (known : lengthOf k ≡ 0 → ⊥) (later : k ≡ openKind → ⊥) where
-        pub finds-another-length : (wordAt s i ≡ lengthOf k → ⊥) → bad 13 ≡ findAt s i
+      module _ (known : recordLength k ≡ 0 → ⊥) (later : k ≡ openKind → ⊥) where
+        pub finds-another-length : (wordAt s i ≡ recordLength k → ⊥) → bad 13 ≡ findAt s i
         unfolding findAt
         finds-another-length e =
             rw (lt-leb (length s) i here, cut, ← is, ne-eqb _ _ known, ne-eqb _ _ later, ne-eqb _ _ e)
 
-        pub finds-record : wordAt s i ≡ lengthOf k
-            → got k (numberAt s i 1) (numberAt s i 2) (numberAt s i 3) (i + 2 + lengthOf k) ≡ findAt s i
+        pub finds-record : wordAt s i ≡ recordLength k
+            → got k (numberAt s i 1) (numberAt s i 2) (numberAt s i 3) (i + 2 + recordLength k) ≡ findAt s i
         unfolding findAt
         finds-record e =
             rw (lt-leb (length s) i here, cut, ← is, ne-eqb _ _ known, ne-eqb _ _ later, e, eq-eqb _ _ refl)
@@ -67,8 +67,8 @@ unfolding findAt
 goes-onward s i =
     by-test (Onward s i) (leb (length s) i) (λ _. tt) λ _.
     by-test (Onward s i) (not (wellCut s i)) (λ _. tt) λ cut.
-    by-test (Onward s i) (eqb (lengthOf (wordAt s (i + 2))) 0 || eqb (wordAt s (i + 2)) openKind) (λ _. tt) λ _.
-    by-test (Onward s i) (eqb (wordAt s i) (lengthOf (wordAt s (i + 2))))
+    by-test (Onward s i) (eqb (recordLength (wordAt s (i + 2))) 0 || eqb (wordAt s (i + 2)) openKind) (λ _. tt) λ _.
+    by-test (Onward s i) (eqb (wordAt s i) (recordLength (wordAt s (i + 2))))
     (λ _. let w = whole s i (not-false (wellCut s i) cut) in (omega arith, w .0)) λ _. tt
 
 pub record-onward : (s : List ℕ) (i : ℕ) {kind x y z j : ℕ} → got kind x y z j ≡ findAt s i

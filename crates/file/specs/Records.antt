@@ -16,8 +16,8 @@ abbrev pub settleKind : ℕ
 settleKind = 17
 
 -- how many bytes follow the length in a record of a kind, its two-byte kind among them; 0 for an unknown kind
-unfoldable pub lengthOf : ℕ → ℕ
-lengthOf kind =
+unfoldable pub recordLength : ℕ → ℕ
+recordLength kind =
     cond (leb 1 kind && leb kind 3 || eqb kind 7) 8
     (cond (eqb kind 4 || eqb kind 6 || eqb kind openKind) 6
     (cond (eqb kind 5 || eqb kind settleKind) 4 0))
@@ -44,8 +44,8 @@ unfoldable pub findAt : List ℕ → ℕ → Found
 findAt s i =
     cond (leb (length s) i) end
     (cond (not (wellCut s i)) (bad 13)
-    (cond (eqb (lengthOf (wordAt s (i + 2))) 0 || eqb (wordAt s (i + 2)) openKind) (bad 2)
-    (cond (eqb (wordAt s i) (lengthOf (wordAt s (i + 2))))
+    (cond (eqb (recordLength (wordAt s (i + 2))) 0 || eqb (wordAt s (i + 2)) openKind) (bad 2)
+    (cond (eqb (wordAt s i) (recordLength (wordAt s (i + 2))))
     (got (wordAt s (i + 2)) (numberAt s i 1) (numberAt s i 2) (numberAt s i 3) (i + 2 + wordAt s i))
     (bad 13))))
 

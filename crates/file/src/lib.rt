@@ -2,7 +2,7 @@
 ghost use mathlib.Core.Path.{_≡_};
 ghost use Prim.Native.Nat.{_+_, _≤_, _<_};
 ghost use lib.ListN.{length, getD};
-ghost use Rattle.file.specs.Records.{lengthOf, numberAt, wellCut};
+ghost use Rattle.file.specs.Records.{recordLength, numberAt, wellCut};
 ghost use Rattle.file.specs.Promises.{WordPromise, FindPromise, BegunPromise};
 
 pub const OPEN: u16 = 16;
@@ -42,8 +42,8 @@ pub fn word_at(s: &[u8], i: usize) -> u16
 }
 
 // How many bytes follow the length in a record of a kind; 0 for an unknown kind.
-fn length_of(kind: u16) -> u16
-    ensures { λ r. ⌜ r ≡ lengthOf kind ⌝ }
+fn record_length(kind: u16) -> u16
+    ensures { λ r. ⌜ r ≡ recordLength kind ⌝ }
 {
     match kind {
         1 | 2 | 3 | 7 => 8,
@@ -94,7 +94,7 @@ pub fn find_at(s: &[u8], i: usize) -> Found
         return Found::Bad(13);
     }
     let kind = word_at(s, i + 2);
-    let length = length_of(kind);
+    let length = record_length(kind);
     if length == 0 {
         return Found::Bad(2);
     }

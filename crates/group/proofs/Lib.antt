@@ -13,7 +13,7 @@ pub mod Views
 pub mod WritesIn
 pub mod Names
 pub mod Kept
-pub mod Runs
+pub mod StepByStep
 pub mod Asking
 pub mod Above
 pub mod Unread

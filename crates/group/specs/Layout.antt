@@ -4,7 +4,7 @@ use mathlib.Core.List.{List, [], _∷_, _++_, map}
 use lib.ListN.{getD, set}
 use Rattle.group.specs.Place.{Field, Place, Words, Record, Write, _≔_}
 use Rattle.group.specs.Place.{sender, stamp, value, held, delivered, acked, unsent, inFlight}
-use Rattle.group.specs.Place.{members, mode, count, up, view, logLength, log, message}
+use Rattle.group.specs.Place.{N, mode, count, up, view, logLength, log, message}
 
 -- for how many controllers and how many messages a bank has room
 pub record Layout : Type 0 where
@@ -75,7 +75,7 @@ abbrev pub recordAt : Layout → ℕ → ℕ
 recordAt L m = start 7 (bankWidths L) + m * recordSize L
 
 abbrev pub address : Layout → Place → ℕ
-address L members = start 0 (bankWidths L)
+address L N = start 0 (bankWidths L)
 address L mode = start 1 (bankWidths L)
 address L count = start 2 (bankWidths L)
 address L up = start 3 (bankWidths L)
@@ -115,7 +115,7 @@ abbrev pub FieldIn : Layout → Field → Type 0
 FieldIn L f = index f < getD (recordWidths L) (run f) 0
 
 abbrev pub PlaceIn : Layout → Place → Type 0
-PlaceIn L members = Unit {0}
+PlaceIn L N = Unit {0}
 PlaceIn L mode = Unit {0}
 PlaceIn L count = Unit {0}
 PlaceIn L up = Unit {0}

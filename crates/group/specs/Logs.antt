@@ -13,15 +13,15 @@ use Rattle.group.specs.Refusals.{_else_, firstBroken, isController}
 abbrev pub logRefusal : Layout → List ℕ → ℕ → ℕ
 logRefusal L b who = firstBroken (fit L b else 1 ∷ isController (words L b) who else 3 ∷ [])
 
-abbrev pub lengthOf : Layout → List ℕ → ℕ → ℕ
-lengthOf L b who = cond (eqb (logRefusal L b who) 0) (words L b (logLength who)) 0
+abbrev pub usedLength : Layout → List ℕ → ℕ → ℕ
+usedLength L b who = cond (eqb (logRefusal L b who) 0) (words L b (logLength who)) 0
 
 -- the used part: empty where the question is refused
 abbrev pub logOf : Layout → List ℕ → ℕ → List ℕ
-logOf L b who = take (lengthOf L b who) (drop (address L (log who 0)) b)
+logOf L b who = take (usedLength L b who) (drop (address L (log who 0)) b)
 
 abbrev pub LengthPromise : List ℕ → ℕ → ℕ → ℕ → Type 0
-LengthPromise b who r n = (r ≡ logRefusal paper b who) × (n ≡ lengthOf paper b who)
+LengthPromise b who r n = (r ≡ logRefusal paper b who) × (n ≡ usedLength paper b who)
 
 abbrev pub LogPromise : List ℕ → ℕ → List ℕ → Type 0
 LogPromise b who part = part ≡ logOf paper b who

@@ -20,7 +20,7 @@ impl Bank {
 
     pub const WORDS: usize = 2244;
 
-    pub const MEMBERS: usize = 0;
+    pub const N: usize = 0;
 
     pub const MODE: usize = 1;
 
@@ -65,11 +65,11 @@ fn tied()
       words ← ⟦Bank::WORDS⟧ .entry
       ⌜ controllers ∷ messages ∷ words ∷ [] ≡ limits ⌝ }
     ensures { λ _. do
-      members ← ⟦Bank::MEMBERS⟧ .entry
+      n ← ⟦Bank::N⟧ .entry
       mode ← ⟦Bank::MODE⟧ .entry
       count ← ⟦Bank::COUNT⟧ .entry
       up ← ⟦Bank::UP⟧ .entry
-      ⌜ members ∷ mode ∷ count ∷ up ∷ [] ≡ header ⌝ }
+      ⌜ n ∷ mode ∷ count ∷ up ∷ [] ≡ header ⌝ }
     ensures { λ _. do
       views ← ⟦Bank::VIEWS⟧ .entry
       lengths ← ⟦Bank::LENGTHS⟧ .entry
@@ -145,7 +145,7 @@ pub fn fit(bank: &[u16]) -> bool
     if bank.len() != Bank::WORDS {
         return false;
     }
-    let n = bank[Bank::MEMBERS];
+    let n = bank[Bank::N];
     if !is_size(n) {
         return false;
     }
@@ -186,7 +186,7 @@ pub(crate) fn write_opening(bank: &mut [u16], n: u16, mode: u16)
     ensures { λ _. ⌜ now (bank .exit) ≡ opened paper n mode ⌝ }
 {
     clear(bank);
-    bank[Bank::MEMBERS] = n;
+    bank[Bank::N] = n;
     bank[Bank::MODE] = mode;
     bank[Bank::UP] = sets::all_below(n);
     open_views(bank, n);

@@ -17,7 +17,7 @@ pub fn log_length(bank: &[u16], who: u16) -> LogLength
             length: 0,
         };
     }
-    if who >= bank[Bank::MEMBERS] {
+    if who >= bank[Bank::N] {
         return LogLength {
             refusal: 3,
             length: 0,

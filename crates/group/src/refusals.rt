@@ -5,7 +5,7 @@ ghost use mathlib.Core.Bool.{not};
 ghost use Prim.Native.Nat.{_<_};
 ghost use lib.Dec.{ltb};
 ghost use Rattle.sets.specs.Set.{has};
-ghost use Rattle.group.specs.Place.{members, count};
+ghost use Rattle.group.specs.Place.{N, count};
 ghost use Rattle.group.specs.Layout.{paper, words};
 ghost use Rattle.group.specs.Fit.{Fit};
 ghost use Rattle.group.specs.Step.{asked, broadcast, send, receive, deliver, crash, detect, lose};
@@ -20,7 +20,7 @@ fn actor(bank: &[u16], i: u16) -> u16
     requires { ⌜ Fit paper (now bank) ⌝ }
     ensures { λ r. ⌜ r ≡ firstBroken (Refusals.actor (words paper (now (bank .entry))) i) ⌝ }
 {
-    if i >= bank[Bank::MEMBERS] {
+    if i >= bank[Bank::N] {
         return 3;
     }
     if !sets::has(bank[Bank::UP], i) {
@@ -34,7 +34,7 @@ fn copy(bank: &[u16], i: u16, j: u16, m: u16) -> u16
     requires { ⌜ Fit paper (now bank) ⌝ }
     ensures { λ r. ⌜ r ≡ firstBroken (Refusals.copy (words paper (now (bank .entry))) i j m) ⌝ }
 {
-    let n = bank[Bank::MEMBERS];
+    let n = bank[Bank::N];
     if i >= n {
         return 3;
     }
@@ -110,12 +110,12 @@ pub fn enough(mode: u16, n: u16, trusted: u16, received: u16) -> bool
 
 fn may_deliver(bank: &[u16], i: u16, m: u16) -> bool
     requires { ⌜ Fit paper (now bank) ⌝ }
-    requires { ⌜ (i < words paper (now bank) members) × (m < words paper (now bank) count) ⌝ }
+    requires { ⌜ (i < words paper (now bank) N) × (m < words paper (now bank) count) ⌝ }
     ensures { λ r. ⌜ r ≡ mayDeliver (words paper (now (bank .entry))) i m ⌝ }
 {
     let trusted = bank[Bank::VIEWS + i as usize];
     let received = bank[record_at(m) + (Bank::ACKED + i as usize)];
-    enough(bank[Bank::MODE], bank[Bank::MEMBERS], trusted, received)
+    enough(bank[Bank::MODE], bank[Bank::N], trusted, received)
 }
 
 // The last tests of a delivery: not done yet, and room in the log.
@@ -136,7 +136,7 @@ fn of_deliver(bank: &[u16], i: u16, m: u16) -> u16
     ensures { λ r. ⌜ r ≡ Refusals.refusal paper (words paper (now (bank .entry))) (deliver i m) ⌝ }
 {
     let count = bank[Bank::COUNT];
-    if i >= bank[Bank::MEMBERS] {
+    if i >= bank[Bank::N] {
         return 3;
     }
     if m >= count {
@@ -169,7 +169,7 @@ fn of_detect(bank: &[u16], i: u16, j: u16) -> u16
     requires { ⌜ Fit paper (now bank) ⌝ }
     ensures { λ r. ⌜ r ≡ Refusals.refusal paper (words paper (now (bank .entry))) (detect i j) ⌝ }
 {
-    let n = bank[Bank::MEMBERS];
+    let n = bank[Bank::N];
     let up = bank[Bank::UP];
     if i >= n {
         return 3;

@@ -12,7 +12,7 @@ fn broadcast(bank: &mut [u16], who: u16, stamp: u16, value: u16)
     requires { ⌜ Allowed paper (now bank) (Step.broadcast who stamp value) ⌝ }
     ensures { λ _. ⌜ now (bank .exit) ≡ after paper (now (bank .entry)) (Step.broadcast who stamp value) ⌝ }
 {
-    let n = bank[Bank::MEMBERS];
+    let n = bank[Bank::N];
     let m = bank[Bank::COUNT];
     let a = record_at(m);
     let e = a + Bank::RECORD;
@@ -33,7 +33,7 @@ fn receive(bank: &mut [u16], i: u16, from: u16, m: u16)
     requires { ⌜ Allowed paper (now bank) (Step.receive i from m) ⌝ }
     ensures { λ _. ⌜ now (bank .exit) ≡ after paper (now (bank .entry)) (Step.receive i from m) ⌝ }
 {
-    let n = bank[Bank::MEMBERS];
+    let n = bank[Bank::N];
     let a = record_at(m);
     let e = a + Bank::RECORD;
     record::receive(&mut bank[a..e], n, i, from);

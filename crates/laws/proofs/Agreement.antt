@@ -5,7 +5,7 @@ use mathlib.Core.List.{List}
 use Prim.Native.Nat.{ℕ, _<_}
 use native.Mathlib.Omega.{arith}
 use Rattle.sets.specs.Set.{has, countBelow}
-use Rattle.group.specs.Place.{members, count, up, message, sender, held, delivered}
+use Rattle.group.specs.Place.{N, count, up, message, sender, held, delivered}
 use Rattle.group.specs.Layout.{Layout, words}
 use Rattle.group.specs.Fit.{Fit}
 use Rattle.group.specs.Step.{Step}
@@ -53,7 +53,7 @@ module _ (L : Layout) {n k : ℕ} {before : List Step} {x : List ℕ} (r : Reach
   unfolding setsOf sets visible countBelow
   quorate q = q
 
-  inside : (j : ℕ) → isUp (words L x) j ≡ true → j < words L x members
+  inside : (j : ℕ) → isUp (words L x) j ≡ true → j < words L x N
   unfolding setsOf sets visible
   inside j u = reached-inv L r .inside j u
 

@@ -7,7 +7,7 @@ use native.Mathlib.Omega.{arith}
 use lib.Dec.{eqb, ltb}
 use borrow.Author.Tests.{lt-ltb, ltb-true, eq-eqb, eqb-true, not-true}
 use Rattle.sets.specs.Set.{has, within, countBelow}
-use Rattle.group.specs.Place.{Field, Place, members, mode, count, up, view, logLength, message}
+use Rattle.group.specs.Place.{Field, Place, N, mode, count, up, view, logLength, message}
 use Rattle.group.specs.Place.{held, delivered, acked, unsent, inFlight}
 use Rattle.group.specs.Layout.{Layout, words, PlaceIn, FieldIn}
 use Rattle.group.specs.Fit.{Fit}
@@ -85,7 +85,7 @@ module _ (L : Layout) (b : List ℕ) where
         (
           same-has (message m held) i (k, one) ∙ f .1 .1 .1 .0,
           same-has (message m delivered) i (k, one) ∙ not-true _ (f .1 .1 .1 .1 .1 .0),
-          same-enough (words L b mode) (words L b members) i m j k ∙ f .1 .1 .1 .1 .0,
+          same-enough (words L b mode) (words L b N) i m j k ∙ f .1 .1 .1 .1 .0,
         ),
       )
   allowed-ok (crash who) a = (ltb-true _ _ (a .free .0), a .free .1 .0)
@@ -139,7 +139,7 @@ module _ (L : Layout) (b : List ℕ) where
               (
                 sym (same-has (message m held) i (k, one)) ∙ h .0,
                 (
-                  sym (same-enough (words L b mode) (words L b members) i m j k) ∙ h .2,
+                  sym (same-enough (words L b mode) (words L b N) i m j k) ∙ h .2,
                   (ap not (sym (same-has (message m delivered) i (k, one)) ∙ h .1), (lt-ltb _ _ r, tt)),
                 ),
               ),

@@ -9,7 +9,7 @@ use Rattle.sets.specs.Set.{has, with, without, withAll, allBelow}
 use Rattle.sets.proofs.Members.{has-with, has-without, has-with-all, has-all-below, has-none}
 use Rattle.group.specs.Place.{Field, Words, Record, Write, _≔_}
 use Rattle.group.specs.Place.{sender, held, delivered, acked, unsent, inFlight}
-use Rattle.group.specs.Place.{members, mode, count, up, view, message}
+use Rattle.group.specs.Place.{N, mode, count, up, view, message}
 use Rattle.group.specs.Writes.{fresh, sent, received}
 use Rattle.group.proofs.Places.{sameField}
 use Rattle.group.proofs.Reading.{later}
@@ -32,7 +32,7 @@ recordSets r =
 unfoldable pub sets : Words → Sets
 sets w =
     record {
-      members = w members;
+      N = w N;
       mode = w mode;
       count = w count;
       up = λ a. has (w up) a;

@@ -4,7 +4,7 @@ use mathlib.Core.List.{List, map}
 use Prim.Native.Nat.{ℕ, _+_}
 use borrow.Author.Tests.{ltb-true}
 use Rattle.group.specs.Place.{Field, _≔_}
-use Rattle.group.specs.Place.{members, count, message}
+use Rattle.group.specs.Place.{N, count, message}
 use Rattle.group.specs.Layout.{Layout, words, fields, inRecord, FieldIn}
 use Rattle.group.specs.Step.{broadcast}
 use Rattle.group.specs.Writes.{fresh}
@@ -15,10 +15,10 @@ use Rattle.laws.proofs.Whole.{record-word}
 
 module _ (L : Layout) (b : List ℕ) (who s v : ℕ) (a : Allowed L b (broadcast who s v)) where
   pub new-word : (f : Field) → FieldIn L f
-      → words L (after L b (broadcast who s v)) (message (words L b count) f) ≡ fresh (words L b members) who s v f
+      → words L (after L b (broadcast who s v)) (message (words L b count) f) ≡ fresh (words L b N) who s v f
   new-word f h =
       let c : ℕ = words L b count in
-      let g : Field → ℕ = fresh (words L b members) who s v in
+      let g : Field → ℕ = fresh (words L b N) who s v in
       word-after L b (broadcast who s v) a (message c f) (ltb-true c (L .messages) (a .free .1 .1 .0), h)
       ∙ later-append (inRecord c (map (λ f. f ≔ g f) (fields L))) _ (message c f) _
       ∙ record-word L c g f _ h
@@ -26,6 +26,6 @@ module _ (L : Layout) (b : List ℕ) (who s v : ℕ) (a : Allowed L b (broadcast
   pub one-more : words L (after L b (broadcast who s v)) count ≡ words L b count + 1
   one-more =
       let c : ℕ = words L b count in
-      let g : Field → ℕ = fresh (words L b members) who s v in
+      let g : Field → ℕ = fresh (words L b N) who s v in
       word-after L b (broadcast who s v) a count tt
       ∙ later-append (inRecord c (map (λ f. f ≔ g f) (fields L))) _ count _

@@ -130,17 +130,17 @@ unfolding candidates
 in-message n c m l e h = in-right (pairs n detect) (in-each (ofMessage n) (in-below c m l) h)
 
 pub candidate : (room : ℕ) (s : Sets) {e : Step} → SettlingKind e → Ok room s e
-    → In e (candidates (s .members) (s .count))
+    → In e (candidates (s .N) (s .count))
 unfolding candidates
 candidate room s (sends {from} {to} {m}) ((k, l, g), u, e) =
-    in-message (s .members) (s .count) m g (send from to m)
-    (in-left _ (in-pairs (s .members) (λ i j. send i j m) from to k l))
+    in-message (s .N) (s .count) m g (send from to m)
+    (in-left _ (in-pairs (s .N) (λ i j. send i j m) from to k l))
 candidate room s (receives {i} {from} {m}) ((k, l, g), u, e) =
-    in-message (s .members) (s .count) m g (receive i from m)
-    (in-right (pairs (s .members) (λ i j. send i j m))
-    (in-left _ (in-pairs (s .members) (λ i j. receive i j m) i from k l)))
+    in-message (s .N) (s .count) m g (receive i from m)
+    (in-right (pairs (s .N) (λ i j. send i j m))
+    (in-left _ (in-pairs (s .N) (λ i j. receive i j m) i from k l)))
 candidate room s (delivers {i} {m}) ((k, g), u, e) =
-    in-message (s .members) (s .count) m g (deliver i m)
-    (in-right (pairs (s .members) (λ i j. send i j m))
-    (in-right (pairs (s .members) (λ i j. receive i j m)) (in-map (λ i. deliver i m) (in-below (s .members) i k))))
-candidate room s (detects {i} {j}) ((k, l), u, e) = in-left _ (in-pairs (s .members) detect i j k l)
+    in-message (s .N) (s .count) m g (deliver i m)
+    (in-right (pairs (s .N) (λ i j. send i j m))
+    (in-right (pairs (s .N) (λ i j. receive i j m)) (in-map (λ i. deliver i m) (in-below (s .N) i k))))
+candidate room s (detects {i} {j}) ((k, l), u, e) = in-left _ (in-pairs (s .N) detect i j k l)

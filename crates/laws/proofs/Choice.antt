@@ -9,7 +9,7 @@ use mathlib.Core.Option.{Option, none, some}
 use Prim.Native.Nat.{ℕ, _≤_}
 use native.Mathlib.Omega.{arith}
 use borrow.Author.Tests.{eq-eqb, eqb-true}
-use Rattle.group.specs.Place.{members, count}
+use Rattle.group.specs.Place.{N, count}
 use Rattle.group.specs.Layout.{Layout, words}
 use Rattle.group.specs.Fit.{Fit}
 use Rattle.group.specs.Step.{Step}
@@ -68,7 +68,7 @@ Next L b (some s) = Settling (Allowed L) b s × ((e : Step) → Settling (Allowe
 
 module _ (L : Layout) (b : List ℕ) where
   abbrev listing : List Step
-  listing = candidates (words L b members) (words L b count)
+  listing = candidates (words L b N) (words L b count)
 
   listed : (e : Step) → Settling (Allowed L) b e → In e listing
   unfolding setsOf sets visible
@@ -85,8 +85,8 @@ module _ (L : Layout) (b : List ℕ) where
       go none h = λ e o. clash (passes e (o .1)) (h e (listed e o))
       go (some e) h = (
         (
-          candidates-settle (words L b members) (words L b count) e (h .listed),
+          candidates-settle (words L b N) (words L b count) e (h .listed),
           free-step L b e f (eqb-true (refusal L (words L b) e) 0 (h .passes)),
         ),
-        λ a o. h .first 0 (candidates-in-turn (words L b members) (words L b count)) a (listed a o) (passes a (o .1)),
+        λ a o. h .first 0 (candidates-in-turn (words L b N) (words L b count)) a (listed a o) (passes a (o .1)),
       )

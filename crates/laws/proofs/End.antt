@@ -2,7 +2,7 @@
 use mathlib.Core.Path.{_≡_, refl}
 use mathlib.Core.Bool.{true, false}
 use Prim.Native.Nat.{ℕ, _*_, _<_}
-use Rattle.sets.specs.Set.{tally}
+use Rattle.sets.specs.Set.{howMany}
 use Rattle.group.specs.Fit.{allAck, majority}
 use Rattle.group.specs.Step.{send, receive, deliver, detect}
 use Rattle.laws.specs.Runs.{Ended, Settling}
@@ -17,10 +17,10 @@ use Rattle.laws.proofs.Keep.{Inv}
 module _ (s : Sets) (h : Inv s) (m i : ℕ) (d : s .message m .delivered i ≡ true) where
   pub held-by-all-up : s .mode ≡ allAck → (j : ℕ) → s .up j ≡ true → s .message m .held j ≡ true
   held-by-all-up e j u =
-      all-trusted (s .mode) (s .members) (s .up) (s .message m .held) e (h .sound m .spread i d) j (h .inside j u) u
+      all-trusted (s .mode) (s .N) (s .up) (s .message m .held) e (h .sound m .spread i d) j (h .inside j u) u
 
-  pub held-by-most : s .mode ≡ majority → s .members < 2 * tally (s .message m .held) (s .members)
-  held-by-most e = more-than-half (s .mode) (s .members) (s .up) (s .message m .held) e (h .sound m .spread i d)
+  pub held-by-most : s .mode ≡ majority → s .N < 2 * howMany (s .message m .held) (s .N)
+  held-by-most e = more-than-half (s .mode) (s .N) (s .up) (s .message m .held) e (h .sound m .spread i d)
 
 -- ---- at the end
 
@@ -37,9 +37,9 @@ module _ (room : ℕ) (s : Sets) (h : Inv s) (z : Ended (Settling (Ok room)) s) 
   module _ (q : Quorate s) where
     -- the delivery test passes where everybody up has acked: whoever is down is detected
     passes : (b : ℕ) → s .up b ≡ true → ((a : ℕ) → s .up a ≡ true → s .message m .acked b a ≡ true)
-        → enoughOf (s .mode) (s .members) (s .view b) (s .message m .acked b) ≡ true
+        → enoughOf (s .mode) (s .N) (s .view b) (s .message m .acked b) ≡ true
     passes b v k =
-        enough-grows (s .mode) (s .members) (s .up) (s .view b) (s .up) (s .message m .acked b)
+        enough-grows (s .mode) (s .N) (s .up) (s .view b) (s .up) (s .message m .acked b)
         (λ e a l w. is-true (s .up a) (λ d. z (detect b a) (refl, ((h .inside b v, l), v, (e, d, w)))))
         (λ a _. k a)
         (quorum s q)
@@ -62,7 +62,7 @@ module _ (room : ℕ) (s : Sets) (h : Inv s) (z : Ended (Settling (Ok room)) s) 
     pub agreement : (i j : ℕ) → s .message m .delivered i ≡ true → s .up j ≡ true → s .message m .delivered j ≡ true
     agreement i j d v =
         let both =
-        enough-meets (s .mode) (s .members) (s .up) (s .up) (s .message m .held) j (h .inside j v) v
+        enough-meets (s .mode) (s .N) (s .up) (s .up) (s .message m .held) j (h .inside j v) v
         (quorum s q)
         (h .sound m .spread i d) in
         everywhere (both .0) j (both .3) (both .2) v

@@ -9,9 +9,9 @@ use native.Mathlib.Omega.{arith}
 use lib.Dec.{ltb}
 use lib.ListN.{length}
 use borrow.Author.Tests.{ltb-true, ltb-false}
-use Rattle.sets.specs.Set.{has, tally}
-use Rattle.sets.proofs.Counts.{tally-same}
-use Rattle.group.specs.Place.{Place, members, mode, count, up, view, logLength, log, message}
+use Rattle.sets.specs.Set.{has, howMany}
+use Rattle.sets.proofs.Counts.{howMany-same}
+use Rattle.group.specs.Place.{Place, N, mode, count, up, view, logLength, log, message}
 use Rattle.group.specs.Place.{sender, stamp, value, held, delivered, acked, unsent, inFlight}
 use Rattle.group.specs.Layout.{Layout, words, PlaceIn}
 use Rattle.group.specs.Fit.{Fit}
@@ -31,7 +31,7 @@ use Rattle.laws.proofs.Lifting.{lift-settling, reached-inv}
 use Rattle.laws.proofs.Reached.{fit-run}
 use Rattle.laws.proofs.Logs.{logs-hold-broadcasts, delivered-room}
 use Rattle.laws.proofs.Extent.{same-members}
-use Rattle.laws.proofs.Past.{stamp-kept, value-kept, members-kept, log-run}
+use Rattle.laws.proofs.Past.{stamp-kept, value-kept, N-kept, log-run}
 use Rattle.laws.proofs.Swap.{same-sets}
 
 module _ (L : Layout) (n k : ℕ) where
@@ -88,10 +88,10 @@ module _ (L : Layout) (n k : ℕ) where
     abbrev Shown : Place → Type 0
     Shown p = PlaceIn L p → words L x p ≡ words L y p
 
-    shown-header : Shown members × Shown mode × Shown count × Shown up × ((i : ℕ) → Shown (view i))
+    shown-header : Shown N × Shown mode × Shown count × Shown up × ((i : ℕ) → Shown (view i))
     unfolding setsOf sets
     shown-header = (
-      λ h. number members h (ap (λ s. s .members) e),
+      λ h. number N h (ap (λ s. s .N) e),
       λ h. number mode h (ap (λ s. s .mode) e),
       λ h. number count h (ap (λ s. s .count) e),
       λ h. word up h (λ j. ap (λ s. s .up j) e),
@@ -132,25 +132,25 @@ module _ (L : Layout) (n k : ℕ) where
     fy : Fit L y
     fy = reached-fit (reached-on r q)
 
-    same-members-count : (words L x members ≡ words L y members) × (words L x count ≡ words L y count)
-    same-members-count = let h = shown-header x y e in (h .0 tt, h .2 tt)
+    same-N-count : (words L x N ≡ words L y N) × (words L x count ≡ words L y count)
+    same-N-count = let h = shown-header x y e in (h .0 tt, h .2 tt)
 
     same-length : (i : ℕ) → i < L .controllers → words L x (logLength i) ≡ words L y (logLength i)
-    same-length i l = go (ltb i (words L x members)) refl
+    same-length i l = go (ltb i (words L x N)) refl
       where
-        go : (t : Bool) → ltb i (words L x members) ≡ t → words L x (logLength i) ≡ words L y (logLength i)
+        go : (t : Bool) → ltb i (words L x N) ≡ t → words L x (logLength i) ≡ words L y (logLength i)
         go true h =
-            let j = ltb-true i (words L x members) h in
+            let j = ltb-true i (words L x N) h in
             reached-logs (reached-on r p) .lengths i j
-            ∙ tally-same _ _ (words L x count) (λ m u. same-delivered x y e fx i m u)
-            ∙ ap (tally (hasDelivered (words L y) i)) (same-members-count .1)
-            ∙ sym (reached-logs (reached-on r q) .lengths i (omega (arith, same-members-count .0)))
+            ∙ howMany-same _ _ (words L x count) (λ m u. same-delivered x y e fx i m u)
+            ∙ ap (howMany (hasDelivered (words L y) i)) (same-N-count .1)
+            ∙ sym (reached-logs (reached-on r q) .lengths i (omega (arith, same-N-count .0)))
         go false h =
-            let j : words L b members ≤ i = omega (arith, ltb-false i (words L x members) h, members-kept L p) in
+            let j : words L b N ≤ i = omega (arith, ltb-false i (words L x N) h, N-kept L p) in
             log-run L i l p .absent j ∙ sym (log-run L i l q .absent j)
 
     same-outside : (c : Place) → PlaceIn L c → isEntry c ≡ false → words L x c ≡ words L y c
-    same-outside members h z = shown-header x y e .0 h
+    same-outside N h z = shown-header x y e .0 h
     same-outside mode h z = shown-header x y e .1 h
     same-outside count h z = shown-header x y e .2 h
     same-outside up h z = shown-header x y e .3 h
@@ -166,7 +166,7 @@ module _ (L : Layout) (n k : ℕ) where
     same-outside (message m (unsent i)) h z = shown-record x y e m .4 i h
     same-outside (message m (inFlight i)) h z = shown-record x y e m .5 i h
 
-    same-logs : (i m : ℕ) → i < words L x members → occurs m (logOf L x i) ≡ occurs m (logOf L y i)
+    same-logs : (i m : ℕ) → i < words L x N → occurs m (logOf L x i) ≡ occurs m (logOf L y i)
     same-logs i m l = go (ltb m (words L x count)) refl
       where
         rx : LogsRight L x
@@ -175,8 +175,8 @@ module _ (L : Layout) (n k : ℕ) where
         ry : LogsRight L y
         ry = reached-logs (reached-on r q)
 
-        ly : i < words L y members
-        ly = omega (arith, same-members-count .0)
+        ly : i < words L y N
+        ly = omega (arith, same-N-count .0)
 
         nowhere : (o : ℕ) → (0 < o → m < words L x count) → words L x count ≤ m → o ≡ 0
         nowhere zero h u = refl
@@ -187,12 +187,12 @@ module _ (L : Layout) (n k : ℕ) where
             let j = ltb-true m (words L x count) h in
             rx .once i m l j
             ∙ ap (λ t. cond t 1 0) (same-delivered x y e fx i m j)
-            ∙ sym (ry .once i m ly (omega (arith, same-members-count .1)))
+            ∙ sym (ry .once i m ly (omega (arith, same-N-count .1)))
         go false h =
             let u = ltb-false m (words L x count) h in
             nowhere (occurs m (logOf L x i)) (λ o. rx .broadcast i m l o) u
             ∙ sym (nowhere (occurs m (logOf L y i)) (λ o. omega
-            (arith, ry .broadcast i m ly o, same-members-count .1)) u)
+            (arith, ry .broadcast i m ly o, same-N-count .1)) u)
 
     pub alike : Alike L x y
     alike =

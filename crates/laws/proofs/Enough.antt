@@ -6,8 +6,8 @@ use Prim.Native.Nat.{ℕ, _*_, _<_}
 use native.Mathlib.Omega.{arith}
 use lib.Dec.{eqb, ltb}
 use borrow.Author.Tests.{eqb-true, eq-eqb, ltb-true, lt-ltb}
-use Rattle.sets.specs.Set.{every, tally}
-use Rattle.sets.proofs.Counts.{every-at, every-is, tally-mono, Common, common}
+use Rattle.sets.specs.Set.{every, howMany}
+use Rattle.sets.proofs.Counts.{every-at, every-is, howMany-mono, Common, common}
 use Rattle.group.specs.Fit.{allAck, majority}
 use Rattle.laws.proofs.Sets.{Sets, enoughOf, Quorate}
 
@@ -26,7 +26,7 @@ implies false r h = refl
 module _ (n : ℕ) (t r : ℕ → Bool) where
   -- the test as it is defined, where `b` says whether the mode is all-ack
   abbrev Passed : Bool → Type 0
-  Passed b = cond b (every (λ i. not (t i) || r i) n) (ltb n (2 * tally r n)) ≡ true
+  Passed b = cond b (every (λ i. not (t i) || r i) n) (ltb n (2 * howMany r n)) ≡ true
 
   passed-all : Passed true → (i : ℕ) → i < n → t i ≡ true → r i ≡ true
   passed-all h i l u = rw u at (every-at _ n h i l)
@@ -34,8 +34,8 @@ module _ (n : ℕ) (t r : ℕ → Bool) where
   pass-all : ((i : ℕ) → i < n → t i ≡ true → r i ≡ true) → Passed true
   pass-all h = every-is _ n (λ i l. implies (t i) (r i) (h i l))
 
-  passed-most : Passed false → n < 2 * tally r n
-  passed-most h = ltb-true n (2 * tally r n) h
+  passed-most : Passed false → n < 2 * howMany r n
+  passed-most h = ltb-true n (2 * howMany r n) h
 
 module _ (k n : ℕ) where
   -- all-ack: everybody trusted is received from; majority: more than half are
@@ -43,7 +43,7 @@ module _ (k n : ℕ) where
   unfolding enoughOf
   all-trusted t r e h = passed-all n t r (subst (Passed n t r) (eq-eqb k allAck e) h)
 
-  pub more-than-half : (t r : ℕ → Bool) → k ≡ majority → enoughOf k n t r ≡ true → n < 2 * tally r n
+  pub more-than-half : (t r : ℕ → Bool) → k ≡ majority → enoughOf k n t r ≡ true → n < 2 * howMany r n
   unfolding enoughOf
   more-than-half t r e h = passed-most n t r (subst (λ x. Passed n t r (eqb x allAck)) e h)
 
@@ -56,7 +56,7 @@ module _ (k n : ℕ) where
   enough-grows t t′ r r′ ht hr =
       by-mode k (λ b. Passed n t r b → Passed n t′ r′ b)
       (λ e h. pass-all n t′ r′ (λ i l u. hr i l (passed-all n t r h i l (ht e i l u))))
-      (λ h. lt-ltb n _ (omega (arith, passed-most n t r h, tally-mono r r′ n hr)))
+      (λ h. lt-ltb n _ (omega (arith, passed-most n t r h, howMany-mono r r′ n hr)))
 
   -- two sets that pass have a member in common, if anybody is trusted
   pub enough-meets : (t a b : ℕ → Bool) (q : ℕ) → q < n → t q ≡ true
@@ -68,16 +68,16 @@ module _ (k n : ℕ) where
       (λ x y. common a b n (omega (arith, passed-most n t a x, passed-most n t b y)))
 
 -- where agreement is promised, those up pass the test among themselves
-pub quorum : (s : Sets) → Quorate s → enoughOf (s .mode) (s .members) (s .up) (s .up) ≡ true
+pub quorum : (s : Sets) → Quorate s → enoughOf (s .mode) (s .N) (s .up) (s .up) ≡ true
 unfolding enoughOf
 quorum s q = go q
   where
     Among : Bool → Type 0
-    Among = Passed (s .members) (s .up) (s .up)
+    Among = Passed (s .N) (s .up) (s .up)
 
     all : Among true
-    all = pass-all (s .members) (s .up) (s .up) (λ i l u. u)
+    all = pass-all (s .N) (s .up) (s .up) (λ i l u. u)
 
     go : Quorate s → Among (eqb (s .mode) allAck)
     go (inl e) = subst Among (sym (eq-eqb (s .mode) allAck e)) all
-    go (inr h) = by-mode (s .mode) Among (λ e. all) (lt-ltb (s .members) _ h)
+    go (inr h) = by-mode (s .mode) Among (λ e. all) (lt-ltb (s .N) _ h)

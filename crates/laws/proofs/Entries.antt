@@ -9,9 +9,9 @@ use lib.Dec.{eqb}
 use lib.ListN.{length, getD, take, drop}
 use lib.Seq.{drop-cons}
 use borrow.Author.Tests.{lt-ltb, leb-true}
-use Rattle.sets.specs.Set.{tally}
+use Rattle.sets.specs.Set.{howMany}
 use Rattle.sets.proofs.Counts.{every-at}
-use Rattle.group.specs.Place.{members, count, logLength, log}
+use Rattle.group.specs.Place.{N, count, logLength, log}
 use Rattle.group.specs.Layout.{Layout, start, bankWidths, address, words, upFrom}
 use Rattle.group.specs.Fit.{Fit, logFits}
 use Rattle.group.specs.Logs.{logOf}
@@ -32,17 +32,17 @@ part-words b a (suc n) j h =
 
 -- how often x stands among the entries, counted from the front or from the back
 count-from : (x : ℕ) (at : ℕ → ℕ) (n j : ℕ)
-    → tally (λ k. eqb (at k) x) j + occurs x (map at (upFrom j n)) ≡ tally (λ k. eqb (at k) x) (j + n)
-unfolding occurs tally
-count-from x at zero j = omega (arith, ap (tally (λ k. eqb (at k) x)) (add-zero j))
+    → howMany (λ k. eqb (at k) x) j + occurs x (map at (upFrom j n)) ≡ howMany (λ k. eqb (at k) x) (j + n)
+unfolding occurs howMany
+count-from x at zero j = omega (arith, ap (howMany (λ k. eqb (at k) x)) (add-zero j))
 count-from x at (suc n) j =
-    sym (add-assoc (tally (λ k. eqb (at k) x) j) (cond (eqb (at j) x) 1 0) (occurs x (map at (upFrom (suc j) n))))
+    sym (add-assoc (howMany (λ k. eqb (at k) x) j) (cond (eqb (at j) x) 1 0) (occurs x (map at (upFrom (suc j) n))))
     ∙ count-from x at n (suc j)
-    ∙ ap (tally (λ k. eqb (at k) x)) (let e : suc j + n ≡ j + suc n = omega arith in e)
+    ∙ ap (howMany (λ k. eqb (at k) x)) (let e : suc j + n ≡ j + suc n = omega arith in e)
 
-module _ (L : Layout) (b : List ℕ) (f : Fit L b) (i : ℕ) (l : i < words L b members) where
+module _ (L : Layout) (b : List ℕ) (f : Fit L b) (i : ℕ) (l : i < words L b N) where
   pub log-short : words L b (logLength i) ≤ words L b count
-  log-short = leb-true _ _ (every-at (logFits (words L b)) (words L b members) (f .logs) i l)
+  log-short = leb-true _ _ (every-at (logFits (words L b)) (words L b N) (f .logs) i l)
 
   pub log-entries : logOf L b i ≡ map (λ k. words L b (log i k)) (upFrom 0 (words L b (logLength i)))
   log-entries =
@@ -55,10 +55,10 @@ module _ (L : Layout) (b : List ℕ) (f : Fit L b) (i : ℕ) (l : i < words L b 
           let room : k < L .messages = omega (arith, log-short, f .given) in
           rw (f .whole) (inside L (log i k) (omega (arith, f .few), room))
 
-  pub log-occurs : (x : ℕ) → occurs x (logOf L b i) ≡ tally (λ k. eqb (words L b (log i k)) x) (words L b (logLength i))
-  unfolding tally
+  pub log-occurs : (x : ℕ) → occurs x (logOf L b i) ≡ howMany (λ k. eqb (words L b (log i k)) x) (words L b (logLength i))
+  unfolding howMany
   log-occurs x =
       ap (occurs x) log-entries
       ∙ sym (zero-add _)
       ∙ count-from x (λ k. words L b (log i k)) (words L b (logLength i)) 0
-      ∙ ap (tally (λ k. eqb (words L b (log i k)) x)) (zero-add (words L b (logLength i)))
+      ∙ ap (howMany (λ k. eqb (words L b (log i k)) x)) (zero-add (words L b (logLength i)))

@@ -27,14 +27,14 @@ abbrev pub SoundRecord : Sets → ℕ → RecordSets → Type 0
 SoundRecord s m r =
     record {
       copies : (a b : ℕ) → CopyOf s (r .held) a b (r .unsent a b) (r .inFlight b a) (r .acked b a);
-      spread : (a : ℕ) → r .delivered a ≡ true → enoughOf (s .mode) (s .members) (s .up) (r .held) ≡ true;
+      spread : (a : ℕ) → r .delivered a ≡ true → enoughOf (s .mode) (s .N) (s .up) (r .held) ≡ true;
       own : m < s .count → r .held (r .sender) ≡ true;
     }
 
 -- whoever is up is one of the controllers, and every controller takes it to be up; every message's record is sound
 pub record Inv (s : Sets) : Type 0 where
-  pub inside : (a : ℕ) → s .up a ≡ true → a < s .members
-  pub seen : (a b : ℕ) → a < s .members → s .up b ≡ true → s .view a b ≡ true
+  pub inside : (a : ℕ) → s .up a ≡ true → a < s .N
+  pub seen : (a b : ℕ) → a < s .N → s .up b ≡ true → s .view a b ≡ true
   pub sound : (m : ℕ) → SoundRecord s m (s .message m)
 
 pub open-inv : (n k : ℕ) → Inv (openSets n k)
@@ -47,8 +47,8 @@ open-inv n k =
     }
 
 module _ (s : Sets) (h : Inv s) where
-  listed : (a : ℕ) → s .up a ≡ true → ltb a (s .members) ≡ true
-  listed a u = lt-ltb a (s .members) (h .inside a u)
+  listed : (a : ℕ) → s .up a ≡ true → ltb a (s .N) ≡ true
+  listed a u = lt-ltb a (s .N) (h .inside a u)
 
   -- ---- one record
 
@@ -85,7 +85,7 @@ module _ (s : Sets) (h : Inv s) where
           own = o .own;
         }
 
-    sound-receive : (i from : ℕ) → r .inFlight i from ≡ true → SoundRecord s m (afterReceive (s .members) i from r)
+    sound-receive : (i from : ℕ) → r .inFlight i from ≡ true → SoundRecord s m (afterReceive (s .N) i from r)
     sound-receive i from e =
         record {
           copies =
@@ -96,33 +96,33 @@ module _ (s : Sets) (h : Inv s) where
               begins;
           spread =
               λ a d.
-              enough-grows (s .mode) (s .members) (s .up) (s .up) (r .held) held′ (λ _ b _ u. u) (λ b _. joins b)
+              enough-grows (s .mode) (s .N) (s .up) (s .up) (r .held) held′ (λ _ b _ u. u) (λ b _. joins b)
               (o .spread a d);
           own = λ l. joins (r .sender) (o .own l);
         }
       where
         held′ : ℕ → Bool
-        held′ = afterReceive (s .members) i from r .held
+        held′ = afterReceive (s .N) i from r .held
 
         unsent′ : ℕ → ℕ → Bool
-        unsent′ = afterReceive (s .members) i from r .unsent
+        unsent′ = afterReceive (s .N) i from r .unsent
 
         joins : (a : ℕ) → r .held a ≡ true → held′ a ≡ true
         joins a = joined (eqb i a) (r .held a)
 
         begins : (a b : ℕ) → CopyOf s held′ a b (unsent′ a b) (r .inFlight b a) (r .acked b a)
-        begins a b = held-to (eqb i b) (held-from (eqb i a) (ltb b (s .members)) (listed b) (o .copies a b))
+        begins a b = held-to (eqb i b) (held-from (eqb i a) (ltb b (s .N)) (listed b) (o .copies a b))
 
-    sound-deliver : (i : ℕ) → i < s .members → enoughOf (s .mode) (s .members) (s .view i) (r .acked i) ≡ true
+    sound-deliver : (i : ℕ) → i < s .N → enoughOf (s .mode) (s .N) (s .view i) (r .acked i) ≡ true
         → SoundRecord s m (afterDeliver i r)
     sound-deliver i l e =
         record {
           copies = o .copies;
           spread =
               on-one i
-              (λ a t. cond t true (r .delivered a) ≡ true → enoughOf (s .mode) (s .members) (s .up) (r .held) ≡ true)
+              (λ a t. cond t true (r .delivered a) ≡ true → enoughOf (s .mode) (s .N) (s .up) (r .held) ≡ true)
               (λ _.
-              enough-grows (s .mode) (s .members) (s .view i) (s .up) (r .acked i) (r .held)
+              enough-grows (s .mode) (s .N) (s .view i) (s .up) (r .acked i) (r .held)
               (λ _ b _ u. h .seen i b l u)
               (λ b _ a. acked-from (rw a at (o .copies b i)))
               e)
@@ -150,9 +150,9 @@ module _ (s : Sets) (h : Inv s) where
             on-one (s .count)
             (λ k t.
             SoundRecord (act s (broadcast who stamp value)) k
-            (cond t (newRecord (s .members) who) (s .message k)))
+            (cond t (newRecord (s .N) who) (s .message k)))
             (record {
-              copies = λ a b. begun (eqb who a) (ltb b (s .members)) (listed b);
+              copies = λ a b. begun (eqb who a) (ltb b (s .N)) (listed b);
               spread = λ a e. absurd (false≢true e);
               own = λ l. eq-eqb who who refl;
             })
@@ -174,7 +174,7 @@ module _ (s : Sets) (h : Inv s) where
               copies = λ a b. down (up′ a) (up′ b) (was-up a) (was-up b) (o .copies a b);
               spread =
                   λ a e.
-                  enough-grows (s .mode) (s .members) (s .up) up′ (s .message m .held) (s .message m .held)
+                  enough-grows (s .mode) (s .N) (s .up) up′ (s .message m .held) (s .message m .held)
                   (λ _ b _. was-up b)
                   (λ b _ x. x)
                   (o .spread a e);
@@ -194,7 +194,7 @@ module _ (s : Sets) (h : Inv s) where
       record {
         inside = h .inside;
         seen =
-            on-cell i j (λ a b t _. a < s .members → s .up b ≡ true → cond t false (s .view a b) ≡ true)
+            on-cell i j (λ a b t _. a < s .N → s .up b ≡ true → cond t false (s .view a b) ≡ true)
             (λ _ u. absurd (clash u d))
             (h .seen);
         sound = h .sound;
@@ -207,7 +207,7 @@ unfolding act
 keep room s h (broadcast who stamp value) o = keep-broadcast s h who stamp value
 keep room s h (send from to m) (l, u, e) = in-message s h m (afterSend from to) (sound-send s h m from to e)
 keep room s h (receive i from m) (l, u, e) =
-    in-message s h m (afterReceive (s .members) i from) (sound-receive s h m i from e)
+    in-message s h m (afterReceive (s .N) i from) (sound-receive s h m i from e)
 keep room s h (deliver i m) ((l, g), u, (x, y, e)) = in-message s h m (afterDeliver i) (sound-deliver s h m i l e)
 keep room s h (crash who) o = keep-crash s h who
 keep room s h (detect i j) (l, u, (a, d, e)) = keep-detect s h i j d
@@ -219,7 +219,7 @@ run-inv room {s} h (next {e = e} ok go) = run-inv room (keep room s h e ok) go
 
 -- no step changes how many controllers there are, or the mode
 abbrev pub SameGroup : Sets → Sets → Type 0
-SameGroup s t = (t .members ≡ s .members) × (t .mode ≡ s .mode)
+SameGroup s t = (t .N ≡ s .N) × (t .mode ≡ s .mode)
 
 pub same-group : (s : Sets) (e : Step) → SameGroup s (act s e)
 unfolding act

@@ -1,6 +1,6 @@
 -- What holds of every run, from the sets up to the banks.
 pub mod Sets
-pub mod Runs
+pub mod OneEnd
 pub mod Cells
 pub mod Enough
 pub mod Copies

@@ -6,10 +6,10 @@ use Prim.Native.Nat.{ℕ, _+_, _<_}
 use native.Mathlib.Omega.{arith}
 use lib.Dec.{eqb, ltb}
 use borrow.Author.Tests.{eq-eqb, ne-eqb, eqb-true, eqb-false, lt-ltb, le-ltb, ltb-true, ltb-false, not-true}
-use Rattle.sets.specs.Set.{has, with, tally}
+use Rattle.sets.specs.Set.{has, with, howMany}
 use Rattle.sets.proofs.Members.{has-none, has-with}
-use Rattle.sets.proofs.Counts.{tally-gap}
-use Rattle.group.specs.Place.{Words, members, count, logLength, log, message, delivered}
+use Rattle.sets.proofs.Counts.{howMany-gap}
+use Rattle.group.specs.Place.{Words, N, count, logLength, log, message, delivered}
 use Rattle.group.specs.Layout.{Layout, words}
 use Rattle.group.specs.Fit.{isSize, isMode}
 use Rattle.group.specs.Opening.{opened}
@@ -24,7 +24,7 @@ use Rattle.laws.specs.Logs.{LogsRight}
 use Rattle.laws.proofs.Untouched.{steady, spares, keeps, untouched}
 use Rattle.laws.proofs.Broadcast.{new-word, one-more}
 use Rattle.laws.proofs.Entries.{log-short, log-occurs}
-use Rattle.laws.proofs.Listing.{Lists, lists-same, lists-more, tally-below}
+use Rattle.laws.proofs.Listing.{Lists, lists-same, lists-more, howMany-below}
 use Rattle.laws.proofs.Reached.{along, opened-word, fit-run}
 
 -- message x was broadcast, and controller i has delivered it
@@ -36,7 +36,7 @@ Log L w i = Lists (L .messages) (told w i) (w (logLength i)) (λ k. w (log i k))
 
 -- every controller's log lists what it has delivered
 abbrev Logs : Layout → List ℕ → Type 0
-Logs L b = (i : ℕ) → i < words L b members → Log L (words L b) i
+Logs L b = (i : ℕ) → i < words L b N → Log L (words L b) i
 
 -- ---- a step
 
@@ -44,15 +44,15 @@ abbrev new : Layout → List ℕ → Step → Words
 new L b s = words L (after L b s)
 
 module _ (L : Layout) (b : List ℕ) (s : Step) (a : Allowed L b s) where
-  in-layout : (i : ℕ) → i < words L b members → i < L .controllers
+  in-layout : (i : ℕ) → i < words L b N → i < L .controllers
   in-layout i l = omega (arith, a .sound .few)
 
-  entry-in-layout : (i k : ℕ) → i < words L b members → k < words L b (logLength i)
+  entry-in-layout : (i k : ℕ) → i < words L b N → k < words L b (logLength i)
       → (i < L .controllers) × (k < L .messages)
   entry-in-layout i k l r = (in-layout i l, omega (arith, log-short L b (a .sound) i l, a .sound .given))
 
   -- a step that leaves the log alone, and of each message whether i has delivered it
-  still : (i : ℕ) → i < words L b members → keeps (words L b) s (key (logLength i)) ≡ true
+  still : (i : ℕ) → i < words L b N → keeps (words L b) s (key (logLength i)) ≡ true
       → ((k : ℕ) → keeps (words L b) s (key (log i k)) ≡ true) → ((x : ℕ) → told (new L b s) i x ≡ told (words L b) i x)
       → Log L (words L b) i → Log L (new L b s) i
   still i l n e t h =
@@ -71,7 +71,7 @@ module _ (L : Layout) (b : List ℕ) (s : Step) (a : Allowed L b s) where
       go false q = refl
 
   -- one that leaves alone all that these laws follow
-  quiet : ((k : Key) → spares (words L b) s k ≡ steady k) → (i : ℕ) → i < words L b members
+  quiet : ((k : Key) → spares (words L b) s k ≡ steady k) → (i : ℕ) → i < words L b N
       → Log L (words L b) i → Log L (new L b s) i
   quiet e i l =
       still i l (e (key (logLength i))) (λ k. e (key (log i k)))
@@ -103,8 +103,8 @@ module _ (L : Layout) (b : List ℕ) (who s v : ℕ) (a : Allowed L b (broadcast
 
 -- a delivery adds its message to the log of its controller
 module _ (L : Layout) (b : List ℕ) (i m : ℕ) (a : Allowed L b (deliver i m)) where
-  here : i < words L b members
-  here = ltb-true i (words L b members) (a .free .0)
+  here : i < words L b N
+  here = ltb-true i (words L b N) (a .free .0)
 
   there : m < words L b count
   there = ltb-true m (words L b count) (a .free .1 .0)
@@ -148,7 +148,7 @@ module _ (L : Layout) (b : List ℕ) (i m : ℕ) (a : Allowed L b (deliver i m))
       (word-after L b (deliver i m) a (log i n) (at, end) ∙ rw (eq-eqb n n refl, self))
       (λ x. told-deliver i x ∙ rw (self, and-true))
 
-  other : (j : ℕ) → j < words L b members → eqb i j ≡ false → Log L (words L b) j → Log L (new L b (deliver i m)) j
+  other : (j : ℕ) → j < words L b N → eqb i j ≡ false → Log L (words L b) j → Log L (new L b (deliver i m)) j
   other j l e h =
       lists-same h
       (λ k r. word-after L b (deliver i m) a (log j k) (entry-in-layout L b (deliver i m) a j k l r)
@@ -159,9 +159,9 @@ module _ (L : Layout) (b : List ℕ) (i m : ℕ) (a : Allowed L b (deliver i m))
 -- ---- a run
 
 logs-step : (L : Layout) (b : List ℕ) (s : Step) → Allowed L b s → Logs L b → Logs L (after L b s)
-logs-step L b s a h i l = go s a (subst (λ n. i < n) (untouched L b s a members tt refl) l)
+logs-step L b s a h i l = go s a (subst (λ n. i < n) (untouched L b s a N tt refl) l)
   where
-    go : (s : Step) → Allowed L b s → i < words L b members → Log L (new L b s) i
+    go : (s : Step) → Allowed L b s → i < words L b N → Log L (new L b s) i
     go (broadcast who s v) a l =
         still L b (broadcast who s v) a i l refl (λ k. refl) (told-broadcast L b who s v a i) (h i l)
     go (send from to m) a l = quiet L b (send from to m) a (λ k. refl) i l (h i l)
@@ -177,7 +177,7 @@ logs-step L b s a h i l = go s a (subst (λ n. i < n) (untouched L b s a members
 
 module _ (L : Layout) (n k : ℕ) (fits : isSize L n ≡ true) (known : isMode k ≡ true) where
   logs-opened : Logs L (opened L n k)
-  unfolding tally
+  unfolding howMany
   logs-opened i l =
       let w = words L (opened L n k) in
       let none : w count ≡ 0 = opened-word L n k fits count tt refl in
@@ -186,8 +186,8 @@ module _ (L : Layout) (n k : ℕ) (fits : isSize L n ≡ true) (known : isMode k
       record {
         once = λ x. rw (empty, none, le-ltb x 0 (omega arith));
         long = empty
-            ∙ sym (tally-below (hasDelivered w i) 0 (L .messages) (omega arith))
-            ∙ ap (λ c. tally (λ x. ltb x c && hasDelivered w i x) (L .messages)) (sym none);
+            ∙ sym (howMany-below (hasDelivered w i) 0 (L .messages) (omega arith))
+            ∙ ap (λ c. howMany (λ x. ltb x c && hasDelivered w i x) (L .messages)) (sym none);
       }
 
   logs-run : {es : List Step} {b : List ℕ} → Run (Allowed L) (after L) (opened L n k) es b → Logs L b
@@ -202,7 +202,7 @@ module _ (L : Layout) (n k : ℕ) (fits : isSize L n ≡ true) (known : isMode k
         broadcast = λ i m l q. passes i m (subst (λ x. 0 < x) (log-occurs L b f i l m ∙ h i l .once m) q);
         once = λ i m l q. log-occurs L b f i l m ∙ h i l .once m ∙ rw (lt-ltb m (words L b count) q);
         lengths = λ i l. h i l .long
-            ∙ tally-below (hasDelivered (words L b) i) (words L b count) (L .messages) (f .given);
+            ∙ howMany-below (hasDelivered (words L b) i) (words L b count) (L .messages) (f .given);
       }
     where
       passes : (i m : ℕ) → 0 < cond (told (words L b) i m) 1 0 → m < words L b count
@@ -215,7 +215,7 @@ module _ (L : Layout) (n k : ℕ) (fits : isSize L n ≡ true) (known : isMode k
 
   -- so a delivery that nothing else refuses finds room
   pub delivered-room : {es : List Step} {b : List ℕ} → Run (Allowed L) (after L) (opened L n k) es b
-      → (i m : ℕ) → i < words L b members → m < words L b count → hasDelivered (words L b) i m ≡ false
+      → (i m : ℕ) → i < words L b N → m < words L b count → hasDelivered (words L b) i m ≡ false
       → words L b (logLength i) < words L b count
   delivered-room {b = b} r i m l q z =
-      rw (logs-hold-broadcasts r .lengths i l) (tally-gap (hasDelivered (words L b) i) (words L b count) m q z)
+      rw (logs-hold-broadcasts r .lengths i l) (howMany-gap (hasDelivered (words L b) i) (words L b count) m q z)

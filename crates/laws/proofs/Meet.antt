@@ -98,7 +98,7 @@ module _ (s : Sets) (r : RecordSets) where
     (
       joined (eqb i a) (r .held a) h,
       d,
-      enough-grows (s .mode) (s .members) (s .view a) (s .view a) (r .acked a) (putAt i j true (r .acked) a)
+      enough-grows (s .mode) (s .N) (s .view a) (s .view a) (r .acked a) (putAt i j true (r .acked) a)
           (λ _ b _ u. u)
           (λ b _. joined (cell i j a b) (r .acked a b))
           e,

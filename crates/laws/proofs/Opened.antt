@@ -9,7 +9,7 @@ use lib.ListN.{replicate, length-replicate, getD-replicate}
 use borrow.Author.Tests.{eqb-true, eqb-false, lt-ltb, le-ltb}
 use Rattle.sets.specs.Set.{has, allBelow}
 use Rattle.sets.proofs.Members.{has-all-below, has-none}
-use Rattle.group.specs.Place.{Place, members, mode, count, up, view, message}
+use Rattle.group.specs.Place.{Place, N, mode, count, up, view, message}
 use Rattle.group.specs.Place.{sender, held, delivered, acked, unsent, inFlight}
 use Rattle.group.specs.Layout.{Layout, size, address, words}
 use Rattle.group.specs.Fit.{isSize}
@@ -71,7 +71,7 @@ opening-sets : (n k : ℕ) → sets (λ p. later (opening n k) p 0) ≡ openSets
 unfolding sets recordSets
 opening-sets n k =
     λ d. record {
-      members = elsewhere n n 0 members n refl d;
+      N = elsewhere n n 0 N n refl d;
       mode = elsewhere n n 0 mode k refl d;
       count = elsewhere n n 0 count 0 refl d;
       up = λ a. (ap (λ x. has x a) (elsewhere n n 0 up (allBelow n) refl) ∙ has-all-below n a) d;

@@ -7,7 +7,7 @@ use native.Mathlib.Nat.{lt-irrefl}
 use native.Mathlib.Omega.{arith}
 use lib.Dec.{eqb, ltb}
 use borrow.Author.Tests.{eq-eqb, eqb-true, ltb-true}
-use Rattle.group.specs.Place.{Place, Words, members, logLength, log, message, stamp, value}
+use Rattle.group.specs.Place.{Place, Words, N, logLength, log, message, stamp, value}
 use Rattle.group.specs.Layout.{Layout, words, PlaceIn}
 use Rattle.group.specs.Step.{Step, broadcast, send, receive, deliver, crash, detect, lose}
 use Rattle.group.specs.Promises.{Allowed, after}
@@ -59,15 +59,15 @@ module _ (L : Layout) where
       → Run (Settling (Allowed L)) (after L) b es x → words L x (message m value) ≡ words L b (message m value)
   value-kept m l r = kept (message m value) (l, omega arith) (λ w s e. said-stays w s 2 m e refl refl) r
 
-  pub members-kept : {b x : List ℕ} {es : List Step} → Run (Settling (Allowed L)) (after L) b es x
-      → words L x members ≡ words L b members
-  members-kept r = kept members tt (λ w s e. refl) r
+  pub N-kept : {b x : List ℕ} {es : List Step} → Run (Settling (Allowed L)) (after L) b es x
+      → words L x N ≡ words L b N
+  N-kept r = kept N tt (λ w s e. refl) r
 
   -- ---- lengths and logs, which only a deliver touches
 
   pub record LogStep (b c : List ℕ) (i : ℕ) : Type 0 where
     pub grows : words L b (logLength i) ≤ words L c (logLength i)
-    pub absent : words L b members ≤ i → words L c (logLength i) ≡ words L b (logLength i)
+    pub absent : words L b N ≤ i → words L c (logLength i) ≡ words L b (logLength i)
     pub past : (k : ℕ) → k < L .messages → words L c (logLength i) ≤ k → words L c (log i k) ≡ words L b (log i k)
 
   -- a step that touches neither
@@ -89,7 +89,7 @@ module _ (L : Layout) where
         grows = go (eqb j i) refl;
         absent = λ h. here ∙ unless j i _ _ (λ e. lt-irrefl j (omega (
           arith,
-          ltb-true j (words L b members)
+          ltb-true j (words L b N)
               (a .free .0),
         )));
         past = λ k h g.
@@ -132,6 +132,6 @@ module _ (L : Layout) where
       let g = log-run i l r in
       record {
         grows = omega (arith, h .grows, g .grows);
-        absent = λ q. g .absent (omega (arith, members-kept (next (s, a) done))) ∙ h .absent q;
+        absent = λ q. g .absent (omega (arith, N-kept (next (s, a) done))) ∙ h .absent q;
         past = λ k j q. g .past k j q ∙ h .past k j (omega (arith, g .grows));
       }

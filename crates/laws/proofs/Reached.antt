@@ -7,7 +7,7 @@ use lib.Dec.{eqb}
 use lib.ListN.{replicate, length-replicate, getD-replicate}
 use lib.Seq.{append-snoc}
 use Rattle.sets.specs.Set.{allBelow}
-use Rattle.group.specs.Place.{Place, Write, _≔_, members, mode, up}
+use Rattle.group.specs.Place.{Place, Write, _≔_, N, mode, up}
 use Rattle.group.specs.Layout.{Layout, size, address, words, PlaceIn}
 use Rattle.group.specs.Fit.{Fit, isSize, isMode}
 use Rattle.group.specs.Opening.{views, opening, opened}
@@ -38,7 +38,7 @@ aView k = eqb (k .region) 4
 
 -- what opening writes before the views
 abbrev top : ℕ → ℕ → List (Write Place)
-top n k = members ≔ n ∷ mode ≔ k ∷ up ≔ allBelow n ∷ []
+top n k = N ≔ n ∷ mode ≔ k ∷ up ≔ allBelow n ∷ []
 
 pub opened-word : (L : Layout) (n k : ℕ) → isSize L n ≡ true → (p : Place) → PlaceIn L p → not (aView (key p)) ≡ true
     → words L (opened L n k) p ≡ later (top n k) p 0

@@ -5,7 +5,7 @@ use mathlib.Core.Path.{_≡_}
 use mathlib.Core.Bool.{Bool, true, false, cond, not, _&&_, _||_}
 use mathlib.Core.Logic.{_⊎_}
 use lib.Dec.{eqb, ltb}
-use Rattle.sets.specs.Set.{every, tally}
+use Rattle.sets.specs.Set.{every, howMany}
 use Rattle.group.specs.Fit.{allAck}
 use Rattle.group.specs.Step.{Step, broadcast, send, receive, deliver, crash, detect, lose}
 
@@ -19,7 +19,7 @@ pub record RecordSets : Type 0 where
   pub inFlight : ℕ → ℕ → Bool
 
 pub record Sets : Type 0 where
-  pub members : ℕ
+  pub N : ℕ
   pub mode : ℕ
   pub count : ℕ
   pub up : ℕ → Bool
@@ -29,7 +29,7 @@ pub record Sets : Type 0 where
 -- the delivery test of a mode, among n controllers
 unfoldable pub enoughOf : ℕ → ℕ → (ℕ → Bool) → (ℕ → Bool) → Bool
 enoughOf k n trusted received =
-    cond (eqb k allAck) (every (λ i. not (trusted i) || received i) n) (ltb n (2 * tally received n))
+    cond (eqb k allAck) (every (λ i. not (trusted i) || received i) n) (ltb n (2 * howMany received n))
 
 -- ---- one member in or out, as `v` says
 
@@ -113,7 +113,7 @@ afterLose from to r = recordWith r (r .held) (r .delivered) (r .acked) (r .unsen
 abbrev pub setsWith : (s : Sets) (count : ℕ) (up : ℕ → Bool) (view : ℕ → ℕ → Bool) (message : ℕ → RecordSets) → Sets
 setsWith s count up view message =
     record {
-      members = s .members;
+      N = s .N;
       mode = s .mode;
       count = count;
       up = up;
@@ -129,9 +129,9 @@ inMessage s m f = setsWith s (s .count) (s .up) (s .view) (λ k. cond (eqb m k) 
 unfoldable pub act : Sets → Step → Sets
 act s (broadcast who stamp value) =
     setsWith s (s .count + 1) (s .up) (s .view)
-    (λ k. cond (eqb (s .count) k) (newRecord (s .members) who) (s .message k))
+    (λ k. cond (eqb (s .count) k) (newRecord (s .N) who) (s .message k))
 act s (send from to m) = inMessage s m (afterSend from to)
-act s (receive i from m) = inMessage s m (afterReceive (s .members) i from)
+act s (receive i from m) = inMessage s m (afterReceive (s .N) i from)
 act s (deliver i m) = inMessage s m (afterDeliver i)
 act s (crash who) = setsWith s (s .count) (put who false (s .up)) (s .view) (s .message)
 act s (detect i j) = setsWith s (s .count) (s .up) (putAt i j false (s .view)) (s .message)
@@ -141,7 +141,7 @@ act s (lose from to m) = inMessage s m (afterLose from to)
 abbrev pub openSets : ℕ → ℕ → Sets
 openSets n k =
     record {
-      members = n;
+      N = n;
       mode = k;
       count = 0;
       up = λ a. ltb a n;
@@ -153,24 +153,24 @@ openSets n k =
 
 -- two controllers and a message that are there
 abbrev pub Named : Sets → ℕ → ℕ → ℕ → Type 0
-Named s i j m = (i < s .members) × (j < s .members) × (m < s .count)
+Named s i j m = (i < s .N) × (j < s .N) × (m < s .count)
 
 -- the message is held, not delivered, and the delivery test passes
 abbrev pub Ready : Sets → ℕ → RecordSets → Type 0
 Ready s i r =
     (r .held i ≡ true)
     × (r .delivered i ≡ false)
-    × (enoughOf (s .mode) (s .members) (s .view i) (r .acked i) ≡ true)
+    × (enoughOf (s .mode) (s .N) (s .view i) (r .acked i) ≡ true)
 
 -- there is room for so many messages; names first, then who must be up, then what the sets must hold
 abbrev pub Ok : ℕ → Sets → Step → Type 0
-Ok room s (broadcast who stamp value) = (who < s .members) × (s .up who ≡ true) × (s .count < room)
+Ok room s (broadcast who stamp value) = (who < s .N) × (s .up who ≡ true) × (s .count < room)
 Ok room s (send from to m) = Named s from to m × (s .up from ≡ true) × (s .message m .unsent from to ≡ true)
 Ok room s (receive i from m) = Named s i from m × (s .up i ≡ true) × (s .message m .inFlight i from ≡ true)
-Ok room s (deliver i m) = ((i < s .members) × (m < s .count)) × (s .up i ≡ true) × Ready s i (s .message m)
-Ok room s (crash who) = (who < s .members) × (s .up who ≡ true)
+Ok room s (deliver i m) = ((i < s .N) × (m < s .count)) × (s .up i ≡ true) × Ready s i (s .message m)
+Ok room s (crash who) = (who < s .N) × (s .up who ≡ true)
 Ok room s (detect i j) =
-    ((i < s .members) × (j < s .members))
+    ((i < s .N) × (j < s .N))
     × (s .up i ≡ true)
     × ((s .mode ≡ allAck) × (s .up j ≡ false) × (s .view i j ≡ true))
 Ok room s (lose from to m) =
@@ -178,4 +178,4 @@ Ok room s (lose from to m) =
 
 -- all-ack, or more than half of the controllers are up
 abbrev pub Quorate : Sets → Type 0
-Quorate s = (s .mode ≡ allAck) ⊎ (s .members < 2 * tally (s .up) (s .members))
+Quorate s = (s .mode ≡ allAck) ⊎ (s .N < 2 * howMany (s .up) (s .N))

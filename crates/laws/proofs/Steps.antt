@@ -7,7 +7,7 @@ use lib.Dec.{eqb}
 use borrow.Author.Tests.{eqb-true}
 use Rattle.sets.specs.Set.{has, with, without}
 use Rattle.group.specs.Place.{Field, Words, Record, Write, _≔_}
-use Rattle.group.specs.Place.{delivered, inFlight, members, mode, count, up, view, message}
+use Rattle.group.specs.Place.{delivered, inFlight, N, mode, count, up, view, message}
 use Rattle.group.specs.Layout.{Layout, words, inRecord, FieldIn}
 use Rattle.group.specs.Step.{Step, broadcast, send, receive, deliver, crash, detect, lose}
 use Rattle.group.specs.Writes.{fresh, freshRecord, sent, received, writes}
@@ -45,7 +45,7 @@ module _ (w : Words) (m : ℕ) (xs : List (Write Field)) (F : RecordSets → Rec
   unfolding sets
   record-sets =
       λ d. record {
-        members = not-reached m xs members (w members) refl d;
+        N = not-reached m xs N (w N) refl d;
         mode = not-reached m xs mode (w mode) refl d;
         count = not-reached m xs count (w count) refl d;
         up = λ a. has (not-reached m xs up (w up) refl d) a;
@@ -76,7 +76,7 @@ module _ (w : Words) where
   unfolding act sets
   crash-sets L who =
       λ d. record {
-        members = w members;
+        N = w N;
         mode = w mode;
         count = w count;
         up = λ a. out-one (w up) who a d;
@@ -88,7 +88,7 @@ module _ (w : Words) where
   unfolding act sets
   detect-sets L i j =
       λ d. record {
-        members = w members;
+        N = w N;
         mode = w mode;
         count = w count;
         up = λ a. has (w up) a;
@@ -113,18 +113,18 @@ module _ (L : Layout) (w : Words) (out : (m : ℕ) (f : Field) → (FieldIn L f 
   unfolding act sets one-more
   written-sets (broadcast who s v) l =
       let m : ℕ = w count in
-      let new = freshRecord L (w members) who s v (λ f. w (message m f)) in
+      let new = freshRecord L (w N) who s v (λ f. w (message m f)) in
       ap sets (fun-ext (λ p. later-append (inRecord m new) (count ≔ (m + 1) ∷ []) p (w p)))
       ∙ ap (one-more m)
-      (record-sets w m new (λ _. newRecord (w members) who)
-      (ap recordSets (fun-ext (fresh-whole L (w members) who s v (λ f. w (message m f)) l (out m)))
-      ∙ sets-fresh (w members) who s v))
+      (record-sets w m new (λ _. newRecord (w N) who)
+      (ap recordSets (fun-ext (fresh-whole L (w N) who s v (λ f. w (message m f)) l (out m)))
+      ∙ sets-fresh (w N) who s v))
   written-sets (send from to m) l =
       record-sets w m (sent from to (λ f. w (message m f))) (afterSend from to) (sets-sent from to (λ f. w
       (message m f)))
   written-sets (receive i from m) l =
-      record-sets w m (received (w members) i from (λ f. w (message m f))) (afterReceive (w members) i from)
-      (sets-received (w members) i from (λ f. w (message m f)))
+      record-sets w m (received (w N) i from (λ f. w (message m f))) (afterReceive (w N) i from)
+      (sets-received (w N) i from (λ f. w (message m f)))
   written-sets (deliver i m) l = deliver-sets w L i m
   written-sets (crash who) l = crash-sets w L who
   written-sets (detect i j) l = detect-sets w L i j

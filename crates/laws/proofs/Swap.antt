@@ -11,7 +11,7 @@ use Rattle.group.specs.Step.{Step, broadcast, send, receive, deliver, crash, de
 use Rattle.laws.specs.Runs.{Run, Ended, Settling, settles}
 use Rattle.laws.proofs.Sets.{RecordSets, Sets, enoughOf, cell, putAt, setsWith, inMessage, act, Ready, Ok}
 use Rattle.laws.proofs.Sets.{afterSend, afterReceive, afterDeliver}
-use Rattle.laws.proofs.Runs.{Square, Diamond, same-end}
+use Rattle.laws.proofs.OneEnd.{Square, Diamond, same-end}
 use Rattle.laws.proofs.Enough.{enough-grows}
 use Rattle.laws.proofs.Cells.{was-in, on-one}
 use Rattle.laws.proofs.Copies.{unsent-held, apart}
@@ -90,10 +90,10 @@ module _ (room : ℕ) (s : Sets) (h : Inv s) where
   send-receive : (from to m i j k : ℕ) → Commute (send from to m) (receive i j k)
   unfolding act
   send-receive from to m i j k x y n =
-      in-messages s m k (afterSend from to) (afterReceive (s .members) i j) (HasUnsent from to) (HasInFlight i j) x y
+      in-messages s m k (afterSend from to) (afterReceive (s .N) i j) (HasUnsent from to) (HasInFlight i j) x y
       (λ e q.
       let c = rw (x .2) at (h .sound m .copies from to) in
-      send-receipt (s .message m) from to i j (s .members) (unsent-held c) (apart c) (x .2) q)
+      send-receipt (s .message m) from to i j (s .N) (unsent-held c) (apart c) (x .2) q)
 
   send-deliver : (from to m i k : ℕ) → Commute (send from to m) (deliver i k)
   unfolding act
@@ -104,18 +104,18 @@ module _ (room : ℕ) (s : Sets) (h : Inv s) where
   receive-receive : (i from m j to k : ℕ) → Commute (receive i from m) (receive j to k)
   unfolding act
   receive-receive i from m j to k x y n =
-      in-messages s m k (afterReceive (s .members) i from) (afterReceive (s .members) j to)
+      in-messages s m k (afterReceive (s .N) i from) (afterReceive (s .N) j to)
       (HasInFlight i from)
       (HasInFlight j to)
       x
       y
-      (λ e q. two-receipts (s .message m) i from j to (s .members) (x .2) q (λ d. n (cc (e, d .0, d .1))))
+      (λ e q. two-receipts (s .message m) i from j to (s .N) (x .2) q (λ d. n (cc (e, d .0, d .1))))
 
   receive-deliver : (i from m j k : ℕ) → Commute (receive i from m) (deliver j k)
   unfolding act
   receive-deliver i from m j k x y n =
-      in-messages s m k (afterReceive (s .members) i from) (afterDeliver j) (HasInFlight i from) (Ready s j) x y
-      (λ e q. receipt-delivery s (s .message m) (s .members) i from j (x .2) q)
+      in-messages s m k (afterReceive (s .N) i from) (afterDeliver j) (HasInFlight i from) (Ready s j) x y
+      (λ e q. receipt-delivery s (s .message m) (s .N) i from j (x .2) q)
 
   deliver-deliver : (i m j k : ℕ) → Commute (deliver i m) (deliver j k)
   unfolding act
@@ -127,9 +127,9 @@ module _ (room : ℕ) (s : Sets) (h : Inv s) where
   unfolding act
   deliver-detect i m a b (l, u, (g, d, e)) y n = (y, (l, u, (g, d, passes)), refl)
     where
-      passes : enoughOf (s .mode) (s .members) (putAt a b false (s .view) i) (s .message m .acked i) ≡ true
+      passes : enoughOf (s .mode) (s .N) (putAt a b false (s .view) i) (s .message m .acked i) ≡ true
       passes =
-          enough-grows (s .mode) (s .members) (s .view i) (putAt a b false (s .view) i) (s .message m .acked i)
+          enough-grows (s .mode) (s .N) (s .view i) (putAt a b false (s .view) i) (s .message m .acked i)
           (s .message m .acked i)
           (λ _ j _. was-in (cell a b i j) (s .view i j))
           (λ _ _ x. x)

@@ -1,6 +1,6 @@
 -- The table of the paper's proved cases holds: computed.
 use mathlib.Core.Path.{refl}
-use Rattle.sets.specs.Set.{has, with, without, allBelow, cut, withAll, every, within, tally, countBelow}
+use Rattle.sets.specs.Set.{has, with, without, allBelow, cut, withAll, every, within, howMany, countBelow}
 use Rattle.group.specs.Layout.{fields}
 use Rattle.group.specs.Opening.{opened}
 use Rattle.group.specs.Refusals.{enough}
@@ -13,6 +13,6 @@ use Rattle.day.specs.Tallies.{addAll, allGiven, tallyOf}
 use Rattle.laws.specs.Table.{table, seenAfter, seenOf, TableHolds}
 
 pub table-holds : TableHolds
-unfolding has with without allBelow cut withAll every within tally countBelow fields opened enough refusalOf stepOf
+unfolding has with without allBelow cut withAll every within howMany countBelow fields opened enough refusalOf stepOf
     runFrom runOf candidates next settleFrom settleOf dayOf addAll allGiven tallyOf table seenAfter seenOf
 table-holds = refl

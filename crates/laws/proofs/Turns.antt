@@ -40,7 +40,7 @@ module _ (room : ℕ) (s : Sets) where
   already : {e a : Step} → SettlingKind e → SettlingKind a → turn a < turn e → Ok room (act s e) a → Ok room s a
   unfolding act
   already (sends {from} {to} {m}) k l o = earlier m (afterSend from to) k l o
-  already (receives {i} {from} {m}) k l o = earlier m (afterReceive (s .members) i from) k l o
+  already (receives {i} {from} {m}) k l o = earlier m (afterReceive (s .N) i from) k l o
   already (delivers {i} {m}) k l o = earlier m (afterDeliver i) k l o
   already detects k l o = absurd (omega arith)
 

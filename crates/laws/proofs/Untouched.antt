@@ -5,7 +5,7 @@ use mathlib.Core.List.{List}
 use Prim.Native.Nat.{ℕ}
 use lib.Dec.{eqb, ltb}
 use borrow.Author.Tests.{eq-eqb}
-use Rattle.group.specs.Place.{Place, Words, recordOf, members, count}
+use Rattle.group.specs.Place.{Place, Words, recordOf, N, count}
 use Rattle.group.specs.Layout.{Layout, words, inRecord, PlaceIn}
 use Rattle.group.specs.Step.{Step, broadcast, send, receive, deliver, crash, detect, lose}
 use Rattle.group.specs.Writes.{freshRecord, writes}
@@ -53,7 +53,7 @@ keeps w s k = inHeader k || spares w s k
 module _ (L : Layout) where
   writes-aside : (w : Words) (s : Step) → Aside (keeps w s) (writes L w s)
   writes-aside w (broadcast who s v) =
-      let new = freshRecord L (w members) who s v (recordOf w (w count)) in
+      let new = freshRecord L (w N) who s v (recordOf w (w count)) in
       let other = keeps w (broadcast who s v) in
       aside-append other (inRecord (w count) new) _
       (record-aside other (w count) new (λ f. ap not (eq-eqb (w count) (w count) refl)))

@@ -10,7 +10,7 @@ use borrow.Author.Tests.{lt-ltb, ltb-true}
 use Rattle.sets.proofs.Tests.{both}
 use Rattle.group.specs.Place.{Field, Place, Words, recordOf, Write, _≔_}
 use Rattle.group.specs.Place.{held, delivered, acked, unsent, inFlight}
-use Rattle.group.specs.Place.{members, mode, count, up, view, logLength, log, message}
+use Rattle.group.specs.Place.{N, mode, count, up, view, logLength, log, message}
 use Rattle.group.specs.Layout.{Layout, recordWidths, words, inRecord, run, index, PlaceIn, FieldIn}
 use Rattle.group.specs.Step.{Step, broadcast, send, receive, deliver, crash, detect, lose}
 use Rattle.group.specs.Writes.{freshRecord, writes}
@@ -46,7 +46,7 @@ module _ (L : Layout) where
   both-below i n j m h k = rw (lt-ltb i n h, lt-ltb j m k)
 
   pub in-key : (p : Place) → PlaceIn L p → keyIn (key p) ≡ true
-  in-key members h = refl
+  in-key N h = refl
   in-key mode h = refl
   in-key count h = refl
   in-key up h = refl
@@ -56,7 +56,7 @@ module _ (L : Layout) where
   in-key (message m f) h = both-below (index f) _ m _ (h .1) (h .0)
 
   key-in : (p : Place) → keyIn (key p) ≡ true → PlaceIn L p
-  key-in members h = tt
+  key-in N h = tt
   key-in mode h = tt
   key-in count h = tt
   key-in up h = tt
@@ -129,7 +129,7 @@ module _ (L : Layout) where
   pub seen-writes : (b : List ℕ) (s : Step) → Allowed L b s
       → writes L (words L b) s ≡ writes L (visible (words L b)) s
   seen-writes b (broadcast who s v) a =
-      sym (ap₂ (λ n m. new n m) (seen-in (words L b) members tt) (seen-in (words L b) count tt))
+      sym (ap₂ (λ n m. new n m) (seen-in (words L b) N tt) (seen-in (words L b) count tt))
     where
       new : ℕ → ℕ → List (Write Place)
       new n m = inRecord m (freshRecord L n who s v (recordOf (words L b) m)) ++ (count ≔ (m + 1) ∷ [])
@@ -151,7 +151,7 @@ module _ (L : Layout) where
         here (acked i) (c .0),
         here held (omega arith),
         here (unsent i) (c .0),
-        seen-in (words L b) members tt,
+        seen-in (words L b) N tt,
       )
       refl)
   seen-writes b (deliver i m) a =

@@ -81,7 +81,7 @@ module _ (s : Sets) (h : Inv s) (m : ℕ) where
   r = s .message m
 
   abbrev n : ℕ
-  n = s .members
+  n = s .N
 
   pub send-work : (from to : ℕ) → from < n → to < n → r .unsent from to ≡ true
       → recordWork n r ≡ recordWork n (afterSend from to r) + 1

@@ -10,7 +10,7 @@ use native.Mathlib.Nat.{eq-or-lt-of-le}
 use native.Mathlib.Omega.{arith}
 use borrow.Author.Tests.{eq-eqb}
 use Rattle.group.specs.Place.{Field, Place, Write, _≔_}
-use Rattle.group.specs.Place.{members, mode, count, up, view, logLength, log, message}
+use Rattle.group.specs.Place.{N, mode, count, up, view, logLength, log, message}
 use Rattle.group.specs.Place.{sender, stamp, value, held, delivered, acked, unsent, inFlight}
 use Rattle.group.specs.Layout.{Layout, upFrom, fields, inRecord, FieldIn, run, index}
 use Rattle.group.proofs.Places.{samePlace}
@@ -19,7 +19,7 @@ use Rattle.group.proofs.Reading.{later}
 
 -- the word of a record that a place names
 fieldOf : Place → Field
-fieldOf members = sender
+fieldOf N = sender
 fieldOf mode = sender
 fieldOf count = sender
 fieldOf up = sender

@@ -25,46 +25,46 @@ others s a b = cond (s .view a b && not (eqb a b)) 1 0
 -- what every message has before it, and the others that each controller still takes to be up
 pub work : Sets → ℕ
 work s =
-    sum (λ m. recordWork (s .members) (s .message m)) (s .count)
-    + sum (λ a. sum (others s a) (s .members)) (s .members)
+    sum (λ m. recordWork (s .N) (s .message m)) (s .count)
+    + sum (λ a. sum (others s a) (s .N)) (s .N)
 
 -- ---- one step
 
 module _ (s : Sets) (h : Inv s) where
   in-message : (m : ℕ) (f : RecordSets → RecordSets) → m < s .count
-      → recordWork (s .members) (s .message m) ≡ recordWork (s .members) (f (s .message m)) + 1
+      → recordWork (s .N) (s .message m) ≡ recordWork (s .N) (f (s .message m)) + 1
       → work s ≡ work (inMessage s m f) + 1
   unfolding work others
   in-message m f l e =
       omega (
         arith,
-        sum-drop true (λ k. recordWork (s .members) (s .message k))
-            (λ k. recordWork (s .members) (inMessage s m f .message k))
+        sum-drop true (λ k. recordWork (s .N) (s .message k))
+            (λ k. recordWork (s .N) (inMessage s m f .message k))
             (s .count)
             m
             l
             (λ k _.
             on-one m
             (λ k t.
-            recordWork (s .members) (s .message k)
-            ≡ recordWork (s .members) (cond t (f (s .message k)) (s .message k)) + cond t 1 0)
+            recordWork (s .N) (s .message k)
+            ≡ recordWork (s .N) (cond t (f (s .message k)) (s .message k)) + cond t 1 0)
             e
             (λ k _. omega arith)
             k),
       )
 
-  detect-work : (i j : ℕ) → i < s .members → j < s .members → (i ≡ j → ⊥) → s .view i j ≡ true
+  detect-work : (i j : ℕ) → i < s .N → j < s .N → (i ≡ j → ⊥) → s .view i j ≡ true
       → work s ≡ work (act s (detect i j)) + 1
   unfolding work others act
   detect-work i j k l n e =
       omega (
         arith,
-        sum-drop true (λ a. sum (others s a) (s .members)) (λ a. sum (others (act s (detect i j)) a) (s .members))
-            (s .members)
+        sum-drop true (λ a. sum (others s a) (s .N)) (λ a. sum (others (act s (detect i j)) a) (s .N))
+            (s .N)
             i
             k
             (λ a _.
-            sum-drop (eqb i a) (others s a) (others (act s (detect i j)) a) (s .members) j l
+            sum-drop (eqb i a) (others s a) (others (act s (detect i j)) a) (s .N) j l
             (λ b _.
             on-cell i j (λ a b t _. others s a b ≡ cond (cond t false (s .view a b) && not (eqb a b)) 1 0 + cond t 1 0)
             (rw (e, ne-eqb i j n))
@@ -73,18 +73,18 @@ module _ (s : Sets) (h : Inv s) where
             b)),
       )
 
-  broadcast-work : (who stamp value : ℕ) → work (act s (broadcast who stamp value)) ≡ work s + per (s .members)
+  broadcast-work : (who stamp value : ℕ) → work (act s (broadcast who stamp value)) ≡ work s + per (s .N)
   unfolding work others act sum
   broadcast-work who stamp value = rw add-one (omega (arith, old, new))
     where
       after : Bool → ℕ → ℕ
-      after t k = recordWork (s .members) (cond t (newRecord (s .members) who) (s .message k))
+      after t k = recordWork (s .N) (cond t (newRecord (s .N) who) (s .message k))
 
       old : sum (λ k. after (eqb (s .count) k) k) (s .count) ≡ sum (after false) (s .count)
       old = sum-same _ _ (s .count) (λ k l. ap (λ t. after t k) (ne-eqb (s .count) k (omega arith)))
 
-      new : after (eqb (s .count) (s .count)) (s .count) ≡ per (s .members)
-      new = ap (λ t. after t (s .count)) (eq-eqb (s .count) (s .count) refl) ∙ new-work (s .members) who
+      new : after (eqb (s .count) (s .count)) (s .count) ≡ per (s .N)
+      new = ap (λ t. after t (s .count)) (eq-eqb (s .count) (s .count) refl) ∙ new-work (s .N) who
 
   crash-work : (who : ℕ) → work (act s (crash who)) ≡ work s
   unfolding work others act
@@ -96,7 +96,7 @@ module _ (s : Sets) (h : Inv s) where
   settling-work room (sends {from} {to} {m}) ((k, l, g), u, e) =
       in-message m (afterSend from to) g (send-work s h m from to k l e)
   settling-work room (receives {i} {from} {m}) ((k, l, g), u, e) =
-      in-message m (afterReceive (s .members) i from) g (receive-work s h m i from k l e)
+      in-message m (afterReceive (s .N) i from) g (receive-work s h m i from k l e)
   settling-work room (delivers {i} {m}) ((l, g), u, (x, d, y)) =
       in-message m (afterDeliver i) g (deliver-work s h m i l d)
   settling-work room (detects {i} {j}) ((k, l), u, (a, d, e)) =
@@ -104,8 +104,8 @@ module _ (s : Sets) (h : Inv s) where
 
   -- what a broadcast adds is counted with the messages
   step-work : (room : ℕ) (e : Step) → Ok room s e
-      → cond (settles e) 1 0 + work (act s e) + per (s .members) * s .count
-      ≤ work s + per (s .members) * act s e .count
+      → cond (settles e) 1 0 + work (act s e) + per (s .N) * s .count
+      ≤ work s + per (s .N) * act s e .count
   unfolding act
   step-work room (broadcast who stamp value) o = rw (mul-add, mul-one) (omega (arith, broadcast-work who stamp value))
   step-work room (send from to m) o = omega (arith, settling-work room (sends {from = from} {to = to} {m = m}) o)
@@ -126,7 +126,7 @@ settled-work room {s} h (next {e = e} o go) =
     omega (arith, settling-work s h room (kind-of e (o .0)) (o .1), settled-work room (keep room s h e (o .1)) go)
 
 run-work : (room : ℕ) {s t : Sets} {es : List Step} → Inv s → Run (Ok room) act s es t
-    → settlings es + work t + per (s .members) * s .count ≤ work s + per (s .members) * t .count
+    → settlings es + work t + per (s .N) * s .count ≤ work s + per (s .N) * t .count
 run-work room h done = omega arith
 run-work room {s} {t} h (next {e = e} {es = rest} o go) =
     let later =

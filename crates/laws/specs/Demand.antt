@@ -7,7 +7,7 @@ use mathlib.Core.List.{List, [], _∷_}
 use mathlib.Core.Option.{Option}
 use lib.ListN.{length}
 use Rattle.sets.specs.Set.{countBelow}
-use Rattle.group.specs.Place.{Place, members, mode, count, up, view, logLength, log, message}
+use Rattle.group.specs.Place.{Place, N, mode, count, up, view, logLength, log, message}
 use Rattle.group.specs.Layout.{Layout, words, PlaceIn}
 use Rattle.group.specs.Fit.{isSize, isMode, allAck}
 use Rattle.group.specs.Opening.{opened}
@@ -30,7 +30,7 @@ pub record Finished (L : Layout) (b : List ℕ) (es : List Step) (x : List ℕ) 
 
 -- an entry of a log
 abbrev pub isEntry : Place → Bool
-isEntry members = false
+isEntry N = false
 isEntry mode = false
 isEntry count = false
 isEntry up = false
@@ -44,13 +44,13 @@ isEntry (message m f) = false
 pub record Alike (L : Layout) (x y : List ℕ) : Type 0 where
   pub long : length x ≡ length y
   pub outside : (p : Place) → PlaceIn L p → isEntry p ≡ false → words L x p ≡ words L y p
-  pub logs : (i m : ℕ) → i < words L x members → occurs m (logOf L x i) ≡ occurs m (logOf L y i)
+  pub logs : (i m : ℕ) → i < words L x N → occurs m (logOf L x i) ≡ occurs m (logOf L y i)
   pub past : (i k : ℕ) → PlaceIn L (log i k) → words L x (logLength i) ≤ k → words L x (log i k) ≡ words L y (log i k)
 
 -- all-ack, or majority with more than half of the controllers up
 abbrev pub Quorum : Layout → List ℕ → Type 0
 Quorum L b =
-    (words L b mode ≡ allAck) ⊎ (words L b members < 2 * countBelow (words L b up) (words L b members))
+    (words L b mode ≡ allAck) ⊎ (words L b N < 2 * countBelow (words L b up) (words L b N))
 
 -- what the first a steps of a list of words ask for, four words a step
 abbrev pub asksFor : ℕ → List ℕ → List (Option Step)

@@ -26,14 +26,14 @@ pub record Seen : Type 0 where
   pub days : List ℕ
 
 pub record Case : Type 0 where
-  pub members : ℕ
+  pub N : ℕ
   pub mode : ℕ
   pub list : List ℕ
   pub budget : ℕ
   pub expected : Seen
 
 abbrev case : ℕ → ℕ → List ℕ → ℕ → Seen → Case
-case n k list budget expected = record { members = n; mode = k; list = list; budget = budget; expected = expected }
+case n k list budget expected = record { N = n; mode = k; list = list; budget = budget; expected = expected }
 
 abbrev seen : ℕ → ℕ → ℕ → Bool → ℕ → ℕ → ℕ → List (List ℕ) → List ℕ → Seen
 seen a r k q h d acks logs days =
@@ -104,9 +104,9 @@ seenAfter n o e =
 
 unfoldable pub seenOf : Case → Seen
 seenOf c =
-    let o = runOf paper (opened paper (c .members) (c .mode)) (c .list) in
+    let o = runOf paper (opened paper (c .N) (c .mode)) (c .list) in
     let e = settleOf paper (o .bank) (c .budget) in
-    seenAfter (c .members) o e
+    seenAfter (c .N) o e
 
 -- every row shows what it says
 abbrev pub TableHolds : Type 0

@@ -37,6 +37,6 @@ pub settled : {bytes b new : List ℕ} {r k f : ℕ} {q : Bool} {due : Ending} �
     → f ≡ flag q → new ≡ bytesAfter bytes r b → settledBytes r k f new ≡ settleOnBytes bytes due
 settled c e n = rw (← c .same, eq-eqb _ _ (c .whole), e, n)
 
-pub tallied : {bytes : List ℕ} {got due : Tallies.Answer} → Called bytes got due
-    → got ≡ cond (isBank bytes) due (Tallies.answer 1 Tallies.empty)
+pub tallied : {bytes : List ℕ} {got due : Tallies.DayAnswer} → Called bytes got due
+    → got ≡ cond (isBank bytes) due (Tallies.dayAnswer 1 Tallies.empty)
 tallied c = rw (eq-eqb _ _ (c .whole)) (c .same)

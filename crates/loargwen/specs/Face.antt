@@ -54,5 +54,5 @@ SettleBytes bytes budget r k q bytes′ =
 
 abbrev pub TallyBytes : List ℕ → ℕ → ℕ → ℕ → ℕ → ℕ → Type 0
 TallyBytes bytes who day r n s =
-    Tallies.answer r (Tallies.tally n s)
-    ≡ cond (isBank bytes) (Tallies.tallyOf paper (wordsOf bytes) who day) (Tallies.answer 1 Tallies.empty)
+    Tallies.dayAnswer r (Tallies.tallied n s)
+    ≡ cond (isBank bytes) (Tallies.tallyOf paper (wordsOf bytes) who day) (Tallies.dayAnswer 1 Tallies.empty)

@@ -105,7 +105,7 @@ pub extern "C" fn loargwen_tally(bank: &[u8], who: u16, on: u16) -> Day
     }
     let mut words = [0u16; Bank::WORDS];
     bytes::load(bank, &mut words);
-    let t = day::tally(&words, who, on);
+    let t = day::tally_day(&words, who, on);
     Day {
         refusal: t.refusal,
         count: t.count,

@@ -2,14 +2,14 @@
 use Prim.Native.Nat.{ℕ}
 use mathlib.Core.Path.{_≡_, refl}
 use mathlib.Core.List.{List, [], _∷_}
-use Rattle.sets.specs.Set.{has, with, without, allBelow, cut, withAll, every, within, tally, countBelow}
+use Rattle.sets.specs.Set.{has, with, without, allBelow, cut, withAll, every, within, howMany, countBelow}
 use Rattle.group.specs.Layout.{fields}
 use Rattle.group.specs.Opening.{opened, openOf}
 use Rattle.group.specs.Refusals.{enough}
 use Rattle.group.specs.Promises.{refusalOf, stepOf}
 use Rattle.settler.specs.Candidates.{candidates, next}
 use Rattle.settler.specs.Settling.{settleFrom, settleOf}
-use Rattle.file.specs.Records.{lengthOf, findAt, begun}
+use Rattle.file.specs.Records.{recordLength, findAt, begun}
 use Rattle.report.specs.Text.{decimalIn}
 use Rattle.report.specs.Lines.{entries, lines, bankLines}
 use Rattle.report.specs.Bench.{applied, playFrom, benchOf}
@@ -31,7 +31,7 @@ sixLines =
     48 ∷ 10 ∷ 101 ∷ 110 ∷ 100 ∷ 32 ∷ 49 ∷ 57 ∷ 32 ∷ 48 ∷ 10 ∷ []
 
 pub worked-example : benchOf workedExample ≡ sixLines
-unfolding has with without allBelow cut withAll every within tally countBelow fields opened openOf enough refusalOf
-    stepOf candidates next settleFrom settleOf lengthOf findAt begun decimalIn entries lines bankLines applied
+unfolding has with without allBelow cut withAll every within howMany countBelow fields opened openOf enough refusalOf
+    stepOf candidates next settleFrom settleOf recordLength findAt begun decimalIn entries lines bankLines applied
     playFrom benchOf
 worked-example = refl

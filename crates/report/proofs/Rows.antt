@@ -12,7 +12,7 @@ use lib.Seq.{take-suc}
 use borrow.Author.Tests.{eqb-true}
 use Rattle.group.specs.Place.{logLength, log}
 use Rattle.group.specs.Layout.{paper, address, words, upFrom}
-use Rattle.group.specs.Logs.{logRefusal, lengthOf, logOf}
+use Rattle.group.specs.Logs.{logRefusal, usedLength, logOf}
 use Rattle.group.proofs.Asking.{log-asked}
 use Rattle.report.specs.Text.{decimal, Prints}
 use Rattle.report.specs.Lines.{blank, entries, lines}
@@ -69,7 +69,7 @@ pub short-log : (b : List ℕ) (who : ℕ) → length (logOf paper b who) ≤ 32
 short-log b who =
     omega (
       arith,
-      length-take (lengthOf paper b who) (drop (address paper (log who 0)) b),
+      length-take (usedLength paper b who) (drop (address paper (log who 0)) b),
       short (eqb (logRefusal paper b who) 0) refl,
     )
   where

@@ -3,7 +3,7 @@ use Prim.Native.Nat.{ℕ}
 use mathlib.Core.Bool.{Bool, cond}
 use mathlib.Core.List.{List, [], _∷_, _++_}
 use Rattle.sets.specs.Set.{has}
-use Rattle.group.specs.Place.{members, mode, count, up, message, sender, stamp, value, held, delivered}
+use Rattle.group.specs.Place.{N, mode, count, up, message, sender, stamp, value, held, delivered}
 use Rattle.group.specs.Layout.{paper, words, upFrom}
 use Rattle.group.specs.Logs.{logOf}
 use Rattle.report.specs.Text.{decimal, hex}
@@ -81,7 +81,7 @@ lines f (i ∷ is) = f i ++ lines f is
 module _ (b : List ℕ) where
   -- N and mode
   abbrev pub groupLine : List ℕ
-  groupLine = sayGroup ++ (decimal (words paper b members) ++ (blank ++ (decimal (words paper b mode) ++ newline)))
+  groupLine = sayGroup ++ (decimal (words paper b N) ++ (blank ++ (decimal (words paper b mode) ++ newline)))
 
   -- of a message: number, sender, stamp and value; who holds and who has delivered it
   abbrev pub messageHead : ℕ → List ℕ
@@ -109,7 +109,7 @@ module _ (b : List ℕ) where
   unfoldable pub bankLines : List ℕ
   bankLines =
       groupLine
-      ++ (lines messageLine (upFrom 0 (words paper b count)) ++ lines controllerLine (upFrom 0 (words paper b members)))
+      ++ (lines messageLine (upFrom 0 (words paper b count)) ++ lines controllerLine (upFrom 0 (words paper b N)))
 
 -- the steps applied and the refusal
 abbrev pub endLine : ℕ → ℕ → List ℕ

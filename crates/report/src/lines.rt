@@ -22,7 +22,7 @@ fn group_line(out: &mut [u8], at: usize, bank: &[u16]) -> usize
     requires { ⌜ Room 28 at × Fit paper (now bank) ⌝ }
     ensures { λ r. ⌜ Prints 28 (now (out .entry)) at (groupLine (now (bank .entry))) r (now (out .exit)) ⌝ }
 {
-    let mode = number(out, at, b"group ", bank[Bank::MEMBERS]);
+    let mode = number(out, at, b"group ", bank[Bank::N]);
     let end = number(out, mode, b" ", bank[Bank::MODE]);
     put(out, end, b'\n')
 }
@@ -115,13 +115,13 @@ fn message_lines(out: &mut [u8], at: usize, bank: &[u16]) -> usize
 fn controller_lines(out: &mut [u8], at: usize, bank: &[u16]) -> usize
     requires { ⌜ Room 6016 at × Fit paper (now bank) ⌝ }
     ensures { λ r. ⌜ Prints 6016 (now (out .entry)) at
-        (Lines.lines (controllerLine (now (bank .entry))) (upFrom 0 (words paper (now (bank .entry)) Place.members))) r
+        (Lines.lines (controllerLine (now (bank .entry))) (upFrom 0 (words paper (now (bank .entry)) Place.N))) r
         (now (out .exit)) ⌝ }
 {
-    let members = bank[Bank::MEMBERS];
+    let n = bank[Bank::N];
     let mut end = at;
     let mut i = 0;
-    while i < members {
+    while i < n {
         end = controller_line(out, end, bank, i);
         i += 1;
     }

@@ -11,7 +11,7 @@ use lib.Dec.{eqb}
 use lib.Pow.{mod-pow-add, pow-pos}
 use lib.Count.{ones, onesIn, ones-cat}
 use borrow.Author.Tests.{eq-eqb, ne-eqb}
-use Rattle.sets.specs.Set.{has, cut, every, tally, countBelow}
+use Rattle.sets.specs.Set.{has, cut, every, howMany, countBelow}
 use Rattle.sets.proofs.Digits.{digit-cases}
 
 -- ---- every number below n
@@ -50,60 +50,60 @@ one-more : (s t : Bool) → (s ≡ true → t ≡ true) → cond s 1 0 ≤ cond 
 one-more true t h = rw (h refl) (omega arith)
 one-more false t h = omega arith
 
-pub tally-mono : (p q : ℕ → Bool) (n : ℕ) → ((i : ℕ) → i < n → p i ≡ true → q i ≡ true) → tally p n ≤ tally q n
-unfolding tally
-tally-mono p q zero h = omega arith
-tally-mono p q (suc n) h =
-    omega (arith, tally-mono p q n (λ i l. h i (omega arith)), one-more (p n) (q n) (h n (omega arith)))
+pub howMany-mono : (p q : ℕ → Bool) (n : ℕ) → ((i : ℕ) → i < n → p i ≡ true → q i ≡ true) → howMany p n ≤ howMany q n
+unfolding howMany
+howMany-mono p q zero h = omega arith
+howMany-mono p q (suc n) h =
+    omega (arith, howMany-mono p q n (λ i l. h i (omega arith)), one-more (p n) (q n) (h n (omega arith)))
 
-pub tally-same : (p q : ℕ → Bool) (n : ℕ) → ((i : ℕ) → i < n → p i ≡ q i) → tally p n ≡ tally q n
-unfolding tally
-tally-same p q zero h = refl
-tally-same p q (suc n) h = rw (h n (omega arith), tally-same p q n (λ i l. h i (omega arith)))
+pub howMany-same : (p q : ℕ → Bool) (n : ℕ) → ((i : ℕ) → i < n → p i ≡ q i) → howMany p n ≡ howMany q n
+unfolding howMany
+howMany-same p q zero h = refl
+howMany-same p q (suc n) h = rw (h n (omega arith), howMany-same p q n (λ i l. h i (omega arith)))
 
-pub tally-le : (p : ℕ → Bool) (n : ℕ) → tally p n ≤ n
-unfolding tally
-tally-le p zero = omega arith
-tally-le p (suc n) = omega (arith, tally-le p n, one-more (p n) true (λ e. refl))
+pub howMany-le : (p : ℕ → Bool) (n : ℕ) → howMany p n ≤ n
+unfolding howMany
+howMany-le p zero = omega arith
+howMany-le p (suc n) = omega (arith, howMany-le p n, one-more (p n) true (λ e. refl))
 
-pub tally-add : (p q : ℕ → Bool) (n m : ℕ) → m < n → p m ≡ false → ((i : ℕ) → i < n → q i ≡ (p i || eqb m i))
-    → tally q n ≡ suc (tally p n)
-unfolding tally
-tally-add p q zero m l z h = absurd (omega arith)
-tally-add p q (suc n) m l z h =
+pub howMany-add : (p q : ℕ → Bool) (n m : ℕ) → m < n → p m ≡ false → ((i : ℕ) → i < n → q i ≡ (p i || eqb m i))
+    → howMany q n ≡ suc (howMany p n)
+unfolding howMany
+howMany-add p q zero m l z h = absurd (omega arith)
+howMany-add p q (suc n) m l z h =
     ⊎-elim here
-    (λ k. later k (tally-add p q n m k z (λ i j. h i (omega arith))))
+    (λ k. later k (howMany-add p q n m k z (λ i j. h i (omega arith))))
     (eq-or-lt-of-le (le-of-suc-le-suc l))
   where
     other : (i : ℕ) → i < suc n → (m ≡ i → ⊥) → q i ≡ p i
     other i k ne = h i k ∙ rw (ne-eqb m i ne) (or-false (p i))
 
-    here : m ≡ n → tally q (suc n) ≡ suc (tally p (suc n))
+    here : m ≡ n → howMany q (suc n) ≡ suc (howMany p (suc n))
     here e =
         let pn : p n ≡ false = ap p (sym e) ∙ z in
         let qn : q n ≡ true = h n (omega arith) ∙ rw (pn, eq-eqb m n e) in
-        let below : tally q n ≡ tally p n = tally-same q p n (λ i k. other i (omega arith) (omega arith)) in
+        let below : howMany q n ≡ howMany p n = howMany-same q p n (λ i k. other i (omega arith) (omega arith)) in
         rw (pn, qn, below) (omega arith)
 
-    later : m < n → tally q n ≡ suc (tally p n) → tally q (suc n) ≡ suc (tally p (suc n))
+    later : m < n → howMany q n ≡ suc (howMany p n) → howMany q (suc n) ≡ suc (howMany p (suc n))
     later k e = rw (other n (omega arith) (omega arith), e) (omega arith)
 
-pub tally-gap : (p : ℕ → Bool) (n m : ℕ) → m < n → p m ≡ false → tally p n < n
-tally-gap p n m l z =
-    omega (arith, tally-add p (λ i. p i || eqb m i) n m l z (λ i k. refl), tally-le (λ i. p i || eqb m i) n)
+pub howMany-gap : (p : ℕ → Bool) (n m : ℕ) → m < n → p m ≡ false → howMany p n < n
+howMany-gap p n m l z =
+    omega (arith, howMany-add p (λ i. p i || eqb m i) n m l z (λ i k. refl), howMany-le (λ i. p i || eqb m i) n)
 
 abbrev pub Common : (ℕ → Bool) → (ℕ → Bool) → ℕ → Type 0
 Common p q n = (i : ℕ) × (i < n) × (p i ≡ true) × (q i ≡ true)
 
 -- the pigeonhole: n has no room for both counts unless they share a number
-pub common : (p q : ℕ → Bool) (n : ℕ) → n < tally p n + tally q n → Common p q n
-unfolding tally
+pub common : (p q : ℕ → Bool) (n : ℕ) → n < howMany p n + howMany q n → Common p q n
+unfolding howMany
 common p q zero h = absurd (omega arith)
 common p q (suc n) h =
     go (p n) (q n) refl refl h (λ l. let r = common p q n l in (r .0, omega (arith, r .1), r .2, r .3))
   where
-    go : (s t : Bool) → p n ≡ s → q n ≡ t → suc n < (tally p n + cond s 1 0) + (tally q n + cond t 1 0)
-        → (n < tally p n + tally q n → Common p q (suc n)) → Common p q (suc n)
+    go : (s t : Bool) → p n ≡ s → q n ≡ t → suc n < (howMany p n + cond s 1 0) + (howMany q n + cond t 1 0)
+        → (n < howMany p n + howMany q n → Common p q (suc n)) → Common p q (suc n)
     go true true e f g k = (n, omega arith, e, f)
     go true false e f g k = k (omega arith)
     go false true e f g k = k (omega arith)
@@ -117,7 +117,7 @@ cut-more w n = rw one-add at (mod-pow-add w 1 n)
 
 -- `ones` is what the code's `count_ones` gives
 pub count-ones : (w n : ℕ) → countBelow w n ≡ ones (cut w n)
-unfolding countBelow tally cut has ones onesIn
+unfolding countBelow howMany cut has ones onesIn
 count-ones w zero = rw mod-one
 count-ones w (suc n) =
     let bit : ones (w / 2 ^ n % 2) ≡ cond (has w n) 1 0 =

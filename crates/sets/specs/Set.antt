@@ -36,12 +36,12 @@ unfoldable pub within : ℕ → ℕ → ℕ → Bool
 within u w n = every (λ i. not (has u i) || has w i) n
 
 -- how many numbers below n pass a test, and how many members a set has below n
-unfoldable pub tally : (ℕ → Bool) → ℕ → ℕ
-tally p zero = 0
-tally p (suc n) = tally p n + cond (p n) 1 0
+unfoldable pub howMany : (ℕ → Bool) → ℕ → ℕ
+howMany p zero = 0
+howMany p (suc n) = howMany p n + cond (p n) 1 0
 
 unfoldable pub countBelow : ℕ → ℕ → ℕ
-countBelow w n = tally (has w) n
+countBelow w n = howMany (has w) n
 
 -- A u16 has room for sixteen controllers; one that has no bit there cannot join.
 unfoldable pub join : ℕ → ℕ → ℕ

@@ -4,7 +4,7 @@ ghost use mathlib.Core.Path.{_≡_};
 ghost use mathlib.Core.List.{map};
 ghost use mathlib.Core.Bool.{true, false};
 ghost use Prim.Native.Nat.{_<_};
-ghost use Rattle.group.specs.Place.{members, count};
+ghost use Rattle.group.specs.Place.{N, count};
 ghost use Rattle.group.specs.Layout.{paper, words};
 ghost use Rattle.group.specs.Fit.{Fit};
 ghost use Rattle.group.specs.Step.{detect, deliver};
@@ -32,9 +32,9 @@ pub enum Next {
 fn first_detect(bank: &[u16]) -> Next
     requires { ⌜ Fit paper (now bank) ⌝ }
     ensures { λ r. ⌜ r
-        ≡ nextOf (firstOf (free paper (now (bank .entry))) (pairs (words paper (now (bank .entry)) members) detect)) ⌝ }
+        ≡ nextOf (firstOf (free paper (now (bank .entry))) (pairs (words paper (now (bank .entry)) N) detect)) ⌝ }
 {
-    let n = bank[Bank::MEMBERS];
+    let n = bank[Bank::N];
     let up = bank[Bank::UP];
     if bank[Bank::MODE] != 1 {
         return Next::Quiet;
@@ -64,9 +64,9 @@ fn first_copy(bank: &[u16], kind: u16, field: usize, m: u16) -> Next
     requires { ⌜ (m < words paper (now bank) count) × CopyKind kind field ⌝ }
     ensures { λ r. ⌜ r
         ≡ nextOf (firstOf (free paper (now (bank .entry)))
-        (pairs (words paper (now (bank .entry)) members) (copy kind m))) ⌝ }
+        (pairs (words paper (now (bank .entry)) N) (copy kind m))) ⌝ }
 {
-    let n = bank[Bank::MEMBERS];
+    let n = bank[Bank::N];
     let up = bank[Bank::UP];
     let a = Bank::RECORDS + (m as usize) * Bank::RECORD;
     let mut i = 0;
@@ -90,7 +90,7 @@ fn first_copy(bank: &[u16], kind: u16, field: usize, m: u16) -> Next
 // Whether controller i may deliver message m.
 fn may_deliver(bank: &[u16], i: u16, m: u16) -> bool
     requires { ⌜ Fit paper (now bank) ⌝ }
-    requires { ⌜ (i < words paper (now bank) members) × (m < words paper (now bank) count) ⌝ }
+    requires { ⌜ (i < words paper (now bank) N) × (m < words paper (now bank) count) ⌝ }
     ensures { λ r. ⌜ r ≡ free paper (now (bank .entry)) (deliver i m) ⌝ }
 {
     let a = Bank::RECORDS + (m as usize) * Bank::RECORD;
@@ -109,7 +109,7 @@ fn may_deliver(bank: &[u16], i: u16, m: u16) -> bool
     let trusted = bank[Bank::VIEWS + i as usize];
     group::enough(
         bank[Bank::MODE],
-        bank[Bank::MEMBERS],
+        bank[Bank::N],
         trusted,
         bank[a + (Bank::ACKED + i as usize)],
     )
@@ -120,9 +120,9 @@ fn first_deliver(bank: &[u16], m: u16) -> Next
     requires { ⌜ m < words paper (now bank) count ⌝ }
     ensures { λ r. ⌜ r
         ≡ nextOf (firstOf (free paper (now (bank .entry)))
-        (map (λ i. deliver i m) (below (words paper (now (bank .entry)) members)))) ⌝ }
+        (map (λ i. deliver i m) (below (words paper (now (bank .entry)) N)))) ⌝ }
 {
-    let n = bank[Bank::MEMBERS];
+    let n = bank[Bank::N];
     let mut i = 0;
     while i < n {
         if may_deliver(bank, i, m) {
@@ -143,7 +143,7 @@ fn first_of_message(bank: &[u16], m: u16) -> Next
     requires { ⌜ Fit paper (now bank) ⌝ }
     requires { ⌜ m < words paper (now bank) count ⌝ }
     ensures { λ r. ⌜ r
-        ≡ nextOf (firstOf (free paper (now (bank .entry))) (ofMessage (words paper (now (bank .entry)) members) m)) ⌝ }
+        ≡ nextOf (firstOf (free paper (now (bank .entry))) (ofMessage (words paper (now (bank .entry)) N) m)) ⌝ }
 {
     let sent = first_copy(bank, 2, Bank::UNSENT, m);
     if let Next::Take(s) = sent {

@@ -7,14 +7,14 @@
 //! - `random`, `banks`, `files`: what is fed to both sides;
 //! - `contest`, `cases`, `figures`: one call made on both sides, and whole cases of calls;
 //! - `face`: the C face of the archive, linked (feature `archive`);
-//! - `records`: the archive's lists of step records, linked (feature `lists`);
+//! - `records`: the archive's lists of step records, linked (feature `step_records`);
 //! - `served`: the same in a process of its own, for machines that the archive is not made for;
 //! - `plant`: faults that can be planted in the rules, which a comparison has to find;
 //! - `args`, `measure`: what the programs share.
 //!
 //! Programs: `compare` (the archive, random calls), `files` (the bench, random files), `benchmark`
 //! (ratios), `plain` (the bench on the straightforward version). Without arguments the first two
-//! say how they are called. `benchmark` needs the feature `lists`, `compare` without `--served` the
+//! say how they are called. `benchmark` needs the feature `step_records`, `compare` without `--served` the
 //! feature `archive`, and both, when built, LOARGWEN_LIB, the folder of the archives.
 
 pub mod answer;
@@ -33,7 +33,7 @@ pub mod layout;
 pub mod measure;
 pub mod plant;
 pub mod random;
-#[cfg(feature = "lists")]
+#[cfg(feature = "step_records")]
 pub mod records;
 pub mod refusal;
 pub mod rules;

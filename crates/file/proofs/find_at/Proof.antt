@@ -28,15 +28,15 @@ add-word-at c = search needs
 word-at-requires : tie.Need-word-at-requires
 word-at-requires c κs = search needs
 
-length-of-requires : tie.Need-length-of-requires
-length-of-requires c κs = search needs
+record-length-requires : tie.Need-record-length-requires
+record-length-requires c κs = search needs
 
 returns-3 : tie.Need-returns-3
 returns-3 c =
     let n = c .before in
     let e2 = n .before .before in
     finds-unknown _ _ (e2 .before .before .if1 .left) (cut e2) _ (n .before .word-at .ensures)
-    (sym (n .length-of .ensures) ∙ c .if3 .taken)
+    (sym (n .record-length .ensures) ∙ c .if3 .taken)
 
 returns-4 : tie.Need-returns-4
 returns-4 c =
@@ -54,8 +54,8 @@ returns-5 c =
     let n = e3 .before in
     let e2 = n .before .before in
     finds-another-length _ _ (e2 .before .before .if1 .left) (cut e2) _ (n .before .word-at .ensures)
-    (λ q. e3 .if3 .left (n .length-of .ensures ∙ q)) (e4 .if4 .left)
-    (λ q. c .if5 .taken (c .before .word-at2 .ensures ∙ q ∙ sym (n .length-of .ensures)))
+    (λ q. e3 .if3 .left (n .record-length .ensures ∙ q)) (e4 .if4 .left)
+    (λ q. c .if5 .taken (c .before .word-at2 .ensures ∙ q ∙ sym (n .record-length .ensures)))
 
 number-at-requires : tie.Need-number-at-requires
 number-at-requires c κs = search needs
@@ -82,7 +82,7 @@ returns-6 c =
     let e3 = e4 .before in
     let n = e3 .before in
     let e2 = n .before .before in
-    let is = n .length-of .ensures in
+    let is = n .record-length .ensures in
     rw (c .before .before .number-at .ensures, c .before .number-at2 .ensures, c .number-at3 .ensures, is)
     (finds-record _ _ (e2 .before .before .if1 .left) (cut e2) _ (n .before .word-at .ensures)
     (λ q. e3 .if3 .left (is ∙ q)) (e4 .if4 .left) (sym (e5 .before .word-at2 .ensures) ∙ e5 .if5 .left ∙ is))
@@ -96,7 +96,7 @@ find-at-spec =
     returns-2
     add-word-at
     word-at-requires
-    length-of-requires
+    record-length-requires
     returns-3
     returns-4
     word-at-requires-2

@@ -8,13 +8,13 @@ use Rattle.loargwen.proofs.loargwen_tally.Statement.{statement}
 use Rattle.loargwen.proofs.loargwen_tally.Tie as tie
 
 -- what the tally answers is its answer on the bank that the bytes stand for
-called : (c : tie.After-tally) → let a = c .before .before .before .before .before .before .before .args in
-    let t = c .tally .result in
-    Called (a .bank .now) (Tallies.answer (t .refusal) (Tallies.tally (t .count) (t .sum)))
+called : (c : tie.After-tally-day) → let a = c .before .before .before .before .before .before .before .args in
+    let t = c .tally-day .result in
+    Called (a .bank .now) (Tallies.dayAnswer (t .refusal) (Tallies.tallied (t .count) (t .sum)))
     (Tallies.tallyOf paper (wordsOf (a .bank .now)) (a .who) (a .on))
 called c = record {
   whole = c .before .before .before .before .before .if1 .left;
-  same = rw (c .before .before .before .load .ensures) at (c .tally .ensures);
+  same = rw (c .before .before .before .load .ensures) at (c .tally-day .ensures);
 }
 
 returns : tie.Need-returns
@@ -26,11 +26,11 @@ slice-aggregate-load c = search needs
 load-requires : tie.Need-load-requires
 load-requires c κs = search needs
 
-slice-aggregate-tally : tie.Need-slice-aggregate-tally
-slice-aggregate-tally c = search needs
+slice-aggregate-tally-day : tie.Need-slice-aggregate-tally-day
+slice-aggregate-tally-day c = search needs
 
-tally-requires : tie.Need-tally-requires
-tally-requires c κs = search needs
+tally-day-requires : tie.Need-tally-day-requires
+tally-day-requires c κs = search needs
 
 returns-2 : tie.Need-returns-2
 returns-2 c = tallied (called c)
@@ -42,6 +42,6 @@ loargwen-tally-spec =
     returns
     slice-aggregate-load
     load-requires
-    slice-aggregate-tally
-    tally-requires
+    slice-aggregate-tally-day
+    tally-day-requires
     returns-2)

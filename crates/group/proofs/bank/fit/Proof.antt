@@ -8,7 +8,7 @@ use borrow.Author.Needs.{needs}
 use borrow.Author.Tests.{eq-eqb, ne-eqb, le-leb, lt-leb, not-true, not-false}
 use lib.Dec.{leb}
 use Rattle.sets.specs.Set.{every}
-use Rattle.group.specs.Place.{members, mode, count}
+use Rattle.group.specs.Place.{N, mode, count}
 use Rattle.group.specs.Layout.{paper, words}
 use Rattle.group.specs.Fit.{fit, isSize, isMode, logFits}
 use Rattle.group.proofs.Views.{size-range}
@@ -17,7 +17,7 @@ use Rattle.group.proofs.bank.fit.Tie as tie
 
 -- what is left of the test from the count on, and from the mode on
 abbrev fromCount : List ℕ → Bool
-fromCount b = leb (words paper b count) (paper .messages) && every (logFits (words paper b)) (words paper b members)
+fromCount b = leb (words paper b count) (paper .messages) && every (logFits (words paper b)) (words paper b N)
 
 abbrev fromMode : List ℕ → Bool
 fromMode b = isMode (words paper b mode) && fromCount b
@@ -26,7 +26,7 @@ fromMode b = isMode (words paper b mode) && fromCount b
 abbrev lent : tie.Else2 → List ℕ
 lent c = c .before .before .before .before .before .args .bank .now
 
-sized : (c : tie.Else2) → isSize paper (words paper (lent c) members) ≡ true
+sized : (c : tie.Else2) → isSize paper (words paper (lent c) N) ≡ true
 sized c = sym (c .before .is-size .ensures) ∙ not-false _ (c .if2 .left)
 
 at-mode : (c : tie.Else2) → fit paper (lent c) ≡ fromMode (lent c)

@@ -7,7 +7,7 @@ use lib.ListN.{length, drop}
 use borrow.Author.Tests.{not-true, not-false}
 use Rattle.group.specs.Layout.{paper}
 use Rattle.group.specs.Lists.{runFrom, runOf}
-use Rattle.group.proofs.Runs.{run-more, run-stop, run-end, run-begins, run-unfit, run-ragged}
+use Rattle.group.proofs.StepByStep.{run-more, run-stop, run-end, run-begins, run-unfit, run-ragged}
 use Rattle.group.proofs.lists.run.Statement.{statement}
 use Rattle.group.proofs.lists.run.Tie as tie
 

@@ -8,7 +8,7 @@ use Rattle.group.specs.Layout.{paper}
 use mathlib.Core.List.{[], _∷_}
 use borrow.Author.Tests.{ltb-true}
 use lib.ListN.{length, set, length-take, length-drop}
-use Rattle.group.specs.Place.{members, count, recordOf, _≔_}
+use Rattle.group.specs.Place.{N, count, recordOf, _≔_}
 use Rattle.group.specs.Layout.{address, recordAt, words, inRecord}
 use Rattle.group.specs.Writes.{fresh, freshRecord}
 use Rattle.group.proofs.Bounds.{controller-below}
@@ -69,7 +69,7 @@ returns c =
     let h = below s in
     let b = now (s .args .bank) in
     let m : ℕ = words paper b count in
-    let n : ℕ = words paper b members in
+    let n : ℕ = words paper b N in
     let a : ℕ = recordAt paper m in
     let k : ℕ = (a + 53) - a in
     let new = freshRecord paper n (s .args .who) (s .args .stamp) (s .args .value) in

@@ -6,7 +6,7 @@ use native.Mathlib.Omega.{arith}
 use denote.Ref.{now}
 use Rattle.group.specs.Layout.{paper}
 use lib.ListN.{length, length-take, length-drop}
-use Rattle.group.specs.Place.{members}
+use Rattle.group.specs.Place.{N}
 use Rattle.group.specs.Layout.{recordAt, words}
 use Rattle.group.specs.Writes.{received}
 use Rattle.group.proofs.Bounds.{copy-below}
@@ -64,7 +64,7 @@ returns c =
     let e : 3 < k = omega arith in
     let u : 21 + i < k = omega arith in
     rw (c .before .before .receive .ensures, c .before .before .before .before .record-at .ensures)
-    (lent paper (s .args .m) k b (received (words paper b members) i (s .args .from)) fits
+    (lent paper (s .args .m) k b (received (words paper b N) i (s .args .from)) fits
     (rw (word (37 + i) f, word (5 + i) d, word 3 e, word (21 + i) u) refl)
     (f, (d, (e, (u, tt)))))
 

@@ -1,7 +1,7 @@
 -- controller_lines: after i turns the lines of the first i controllers are printed.
 use Prim.Native.Nat.{_-_, _≤_}
 use native.Mathlib.Omega.{arith}
-use Rattle.group.specs.Place.{members}
+use Rattle.group.specs.Place.{N}
 use Rattle.group.specs.Layout.{paper, words}
 use Rattle.report.specs.Lines.{controllerLine}
 use Rattle.report.proofs.Printing.{as-long-as}
@@ -15,8 +15,8 @@ Inv-loop out₀ at bank n end₀ i₀ out end i = (i ≤ n) × Rows 376 (control
 abbrev μ-loop : tie.MeasureT-loop
 μ-loop out₀ at bank n end₀ i₀ out end i = n - i
 
-shared-slice-read-members : tie.Need-shared-slice-read-members Inv-loop μ-loop
-shared-slice-read-members c = omega arith
+shared-slice-read-n : tie.Need-shared-slice-read-n Inv-loop μ-loop
+shared-slice-read-n c = omega arith
 
 loop-holds : tie.Need-loop-holds Inv-loop μ-loop
 loop-holds c = (omega arith, no-rows)
@@ -44,7 +44,7 @@ returns : tie.Need-returns Inv-loop μ-loop
 returns c =
     let s = c .before .before .before .before .before in
     let f = s .pre .1 in
-    all-rows (c .before .loop .inv .1) (words paper (s .args .bank .now) members) (omega arith) (omega arith)
+    all-rows (c .before .loop .inv .1) (words paper (s .args .bank .now) N) (omega arith) (omega arith)
 
 pub controller-lines-spec : {M : Type 1} → statement M
 controller-lines-spec =
@@ -52,7 +52,7 @@ controller-lines-spec =
     (tie.spec
     Inv-loop
     μ-loop
-    shared-slice-read-members
+    shared-slice-read-n
     loop-holds
     controller-line-requires
     add-i

@@ -6,7 +6,7 @@ use native.Mathlib.Omega.{arith}
 use lib.ListN.{length}
 use borrow.Author.Needs.{needs}
 use Rattle.file.specs.Records.{got, findAt}
-use Rattle.file.specs.Promises.{said}
+use Rattle.file.specs.Promises.{readAs}
 use Rattle.file.proofs.Finding.{record-onward}
 use Rattle.report.specs.Bench.{playFrom}
 use Rattle.report.proofs.Playing.{plays-end, plays-bad, plays-on, plays-refused}
@@ -30,7 +30,7 @@ here c = let l = c .before .before .before in (l .before .before .before .args .
 
 found : (c : tie.After-found2 Inv-loop μ-loop) → let r = c .found2 .given .0 .0 in
     got (r .kind) (r .a) (r .b) (r .c) (r .next) ≡ findAt (here c .0) (here c .1)
-found c = ap said (sym (c .found2 .given .1)) ∙ c .before .before .find-at .ensures
+found c = ap readAs (sym (c .found2 .given .1)) ∙ c .before .before .find-at .ensures
 
 onward : (c : tie.After-found2 Inv-loop μ-loop) → let j = c .found2 .given .0 .0 .next in
     (here c .1 + 6 ≤ j) × (j ≤ length (here c .0))
@@ -52,7 +52,7 @@ returns : tie.Need-returns Inv-loop μ-loop
 returns c =
     let f = c .before .before in
     let l = f .before .loop in
-    let e = ap said (sym (c .enum-told .given .1)) ∙ f .find-at .ensures in
+    let e = ap readAs (sym (c .enum-told .given .1)) ∙ f .find-at .ensures in
     plays-end _ (l .i) (l .steps) (l .bank) e ∙ sym (l .inv .3)
 
 enum-known-found : tie.Need-enum-known-found Inv-loop μ-loop
@@ -66,7 +66,7 @@ returns-2 c =
     let k = c .before in
     let f = k .before .before in
     let l = f .before .loop in
-    let e = ap said (sym (k .found .given .1)) ∙ f .find-at .ensures in
+    let e = ap readAs (sym (k .found .given .1)) ∙ f .find-at .ensures in
     plays-bad _ (l .i) (l .steps) (l .bank) _ e ∙ sym (l .inv .3)
 
 enum-known-found-2 : tie.Need-enum-known-found-2 Inv-loop μ-loop

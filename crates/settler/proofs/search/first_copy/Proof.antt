@@ -5,7 +5,7 @@ use mathlib.Core.Logic.{⊎-elim}
 use native.Mathlib.Omega.{arith}
 use lib.ListN.{getD}
 use Rattle.sets.specs.Set.{has}
-use Rattle.group.specs.Place.{members, up}
+use Rattle.group.specs.Place.{N, up}
 use Rattle.group.specs.Layout.{paper, words, recordAt, recordSize}
 use Rattle.settler.specs.declared.search.Next.the-variants.{Take}
 use Rattle.settler.specs.Candidates.{firstOf, free, pairs}
@@ -29,7 +29,7 @@ began c = c .before .before .before .before .before .before
 
 row : (c : tie.After-has Inv-loop μ-loop)
     → let i = c .before .before .loop .i in let a = began c .args in let b = a .bank .now in
-    Decided (free paper b) (copy (a .kind) (a .m)) (words paper b members) i (has (words paper b up) i)
+    Decided (free paper b) (copy (a .kind) (a .m)) (words paper b N) i (has (words paper b up) i)
     (getD b (recordAt paper (a .m) + (a .field + i)) 0)
 row c =
     let g = began c .pre .1 in

@@ -5,7 +5,7 @@ use mathlib.Core.Path.{_≡_, sym, ap, _∙_}
 use mathlib.Core.Logic.{⊎-elim}
 use native.Mathlib.Omega.{arith}
 use Rattle.sets.specs.Set.{has, less, lowest}
-use Rattle.group.specs.Place.{members, up, view}
+use Rattle.group.specs.Place.{N, up, view}
 use Rattle.group.specs.Layout.{paper, words}
 use Rattle.group.specs.Step.{detect}
 use Rattle.settler.specs.Candidates.{firstOf, free, pairs}
@@ -29,7 +29,7 @@ lent c = c .before .before .before .before .before .before .before .before .args
 
 row : (c : tie.After-has Inv-loop μ-loop)
     → let i = c .before .before .loop .i in let w = words paper (lent c) in
-    Decided (free paper (lent c)) detect (w members) i (has (w up) i) (less (w (view i)) (w up))
+    Decided (free paper (lent c)) detect (w N) i (has (w up) i) (less (w (view i)) (w up))
 row c =
     let i = c .before .before .loop .i in
     detect-decided paper (lent c) i (c .before .loop-test .taken) (c .before .before .before .if1 .left)

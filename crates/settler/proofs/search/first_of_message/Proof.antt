@@ -3,7 +3,7 @@ use borrow.Author.Needs.{needs}
 use mathlib.Core.Path.{_≡_, sym, ap, _∙_}
 use mathlib.Core.Bool.{Bool}
 use mathlib.Core.List.{List, _++_, map}
-use Rattle.group.specs.Place.{members}
+use Rattle.group.specs.Place.{N}
 use Rattle.group.specs.Layout.{paper, words}
 use Rattle.group.specs.Step.{Step, deliver}
 use Rattle.settler.specs.Candidates.{below, pairs, firstOf, free}
@@ -15,13 +15,13 @@ use Rattle.settler.proofs.search.first_of_message.Tie as tie
 
 -- the three parts of the list, in their order, and the test
 abbrev sends : tie.Start → List Step
-sends c = pairs (words paper (c .args .bank .now) members) (copy 2 (c .args .m))
+sends c = pairs (words paper (c .args .bank .now) N) (copy 2 (c .args .m))
 
 abbrev receipts : tie.Start → List Step
-receipts c = pairs (words paper (c .args .bank .now) members) (copy 3 (c .args .m))
+receipts c = pairs (words paper (c .args .bank .now) N) (copy 3 (c .args .m))
 
 abbrev deliveries : tie.Start → List Step
-deliveries c = map (λ i. deliver i (c .args .m)) (below (words paper (c .args .bank .now) members))
+deliveries c = map (λ i. deliver i (c .args .m)) (below (words paper (c .args .bank .now) N))
 
 abbrev allowed : tie.Start → Step → Bool
 allowed c = free paper (c .args .bank .now)

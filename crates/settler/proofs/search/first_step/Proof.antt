@@ -3,7 +3,7 @@ use Prim.Native.Nat.{_≤_, _-_}
 use mathlib.Core.Path.{_≡_, sym, ap, _∙_}
 use native.Mathlib.Omega.{arith}
 use borrow.Author.Needs.{needs}
-use Rattle.group.specs.Place.{members}
+use Rattle.group.specs.Place.{N}
 use Rattle.group.specs.Layout.{paper, words}
 use Rattle.settler.specs.Candidates.{ofMessage, free, next}
 use Rattle.settler.specs.Moves.{nextOf}
@@ -14,7 +14,7 @@ use Rattle.settler.proofs.search.first_step.Tie as tie
 
 abbrev Inv-loop : tie.InvT-loop
 Inv-loop bank c m₀ m =
-    (m ≤ c) × (next paper bank ≡ rest (free paper bank) (ofMessage (words paper bank members)) c m)
+    (m ≤ c) × (next paper bank ≡ rest (free paper bank) (ofMessage (words paper bank N)) c m)
 
 abbrev μ-loop : tie.MeasureT-loop
 μ-loop bank c m₀ m = c - m

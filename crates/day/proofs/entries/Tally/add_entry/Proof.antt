@@ -5,7 +5,7 @@ use borrow.Author.Tests.{eq-eqb, ne-eqb}
 use borrow.Author.Needs.{needs}
 use Rattle.group.proofs.Rules.{pass, stop}
 use Rattle.day.specs.Days.{dayOf}
-use Rattle.day.specs.Tallies.{tally}
+use Rattle.day.specs.Tallies.{tallied}
 use Rattle.day.proofs.entries.Tally.add_entry.Statement.{statement}
 use Rattle.day.proofs.entries.Tally.add_entry.Tie as tie
 
@@ -25,7 +25,7 @@ returns-2 : tie.Need-returns-2
 unfolding dayOf
 returns-2 c =
     let s = c .before .before .before .args in
-    ap₂ tally (c .before .one-more .ensures) (c .sum-with .ensures)
+    ap₂ tallied (c .before .one-more .ensures) (c .sum-with .ensures)
     ∙ sym (pass _ (eq-eqb (dayOf (s .stamp)) (s .day) (omega arith)) refl)
 
 pub add-entry-spec : {M : Type 1} → statement M

@@ -16,11 +16,11 @@ use denote.Laws.{Is, shows}
 use denote.Ref.{RefT}
 use denote.Index.{place as placed, elem-out, elem-back, looks-slice, shuts-slice}
 use denote.Struct.Laws as LL
-use Rattle.lists.specs.declared.Step.{Step}
-use Rattle.lists.proofs.Step as S
-use Rattle.lists.proofs.Step.Laws as S′
-use Rattle.lists.proofs.Lending.{Shr}
-use Rattle.lists.proofs.Locals.{Filled, Vacant, fills}
+use Rattle.step_records.specs.declared.Step.{Step}
+use Rattle.step_records.proofs.Step as S
+use Rattle.step_records.proofs.Step.Laws as S′
+use Rattle.step_records.proofs.Lending.{Shr}
+use Rattle.step_records.proofs.Locals.{Filled, Vacant, fills}
 
 -- record i of a list; past its end no record is ever read
 abbrev pub recordAt : List Step → ℕ → Step

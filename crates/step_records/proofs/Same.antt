@@ -8,11 +8,11 @@ use Rattle.group.specs.Layout.{paper}
 use Rattle.group.specs.Fit.{fit}
 use Rattle.group.specs.Lists.{runOf, RunPromise}
 use Rattle.group.proofs.Determined.{run-determined}
-use Rattle.group.proofs.Runs.{run-unfit}
-use Rattle.lists.specs.declared.Step.{Step}
-use Rattle.lists.specs.Records.{flat, StepsPromise}
-use Rattle.lists.proofs.Runs.{records-begin}
-use Rattle.lists.proofs.Refused.{Whole, run-whole}
+use Rattle.group.proofs.StepByStep.{run-unfit}
+use Rattle.step_records.specs.declared.Step.{Step}
+use Rattle.step_records.specs.Records.{flat, StepsPromise}
+use Rattle.step_records.proofs.ByRecord.{records-begin}
+use Rattle.step_records.proofs.Refused.{Whole, run-whole}
 
 -- on the same steps both forms give the same number of accepted steps, the same refusal and the same bank
 pub same-as-flat : (b : List ℕ) (ss : List Step) {n k r s : ℕ} {c d : List ℕ} → StepsPromise b ss n r c

@@ -1,5 +1,5 @@
 -- Laws of lists of records, and what the walk of the one function by hand rests on.
-pub mod Runs
+pub mod ByRecord
 pub mod Refused
 pub mod Same
 pub mod Lending

@@ -34,16 +34,16 @@ use Rattle.group.specs.Layout.{paper}
 use Rattle.group.specs.Opening.{answer}
 use Rattle.group.specs.Lists.{runFrom, runOf}
 use Rattle.group.proofs.step.Symbol.{name as #group·step}
-use Rattle.lists.specs.declared.Step.{Step}
-use Rattle.lists.specs.Records.{flat, StepsPromise}
-use Rattle.lists.proofs.Runs.{stepBy, records-more, records-stop, records-end}
-use Rattle.lists.proofs.Locals.{Blocks, slot, all, empty, full, clears, freed, revalued, var, part-of}
-use Rattle.lists.proofs.Locals.{fills, refills, receives, if-true, if-false}
-use Rattle.lists.proofs.Calls.{Steps, asks-step}
-use Rattle.lists.proofs.Reading.{recordAt, record-typed, copies-record}
-use Rattle.lists.proofs.Step as S
-use Rattle.lists.proofs.run_steps.Code as code
-use Rattle.lists.proofs.run_steps.Proof.Frame.{Call, Lent, Post, exits, En, AtHead}
+use Rattle.step_records.specs.declared.Step.{Step}
+use Rattle.step_records.specs.Records.{flat, StepsPromise}
+use Rattle.step_records.proofs.ByRecord.{stepBy, records-more, records-stop, records-end}
+use Rattle.step_records.proofs.Locals.{Blocks, slot, all, empty, full, clears, freed, revalued, var, part-of}
+use Rattle.step_records.proofs.Locals.{fills, refills, receives, if-true, if-false}
+use Rattle.step_records.proofs.Calls.{Steps, asks-step}
+use Rattle.step_records.proofs.Reading.{recordAt, record-typed, copies-record}
+use Rattle.step_records.proofs.Step as S
+use Rattle.step_records.proofs.run_steps.Code as code
+use Rattle.step_records.proofs.run_steps.Proof.Frame.{Call, Lent, Post, exits, En, AtHead}
 
 -- what the loop knows: i records are applied, the bank's words are l, and the rest answers as the whole list does
 pub record State (b : List ℕ) (ss : List Step) : Type 0 where

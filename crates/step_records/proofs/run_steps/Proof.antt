@@ -34,24 +34,24 @@ use denote.Triple.Walked.{Walks, walked, goes-slice, goes-none-slice, walk-meets
 use denote.Exit.{yes}
 use Rattle.group.specs.Layout.{paper}
 use Rattle.group.specs.Fit as Fitness
-use Rattle.group.proofs.Runs.{run-unfit}
+use Rattle.group.proofs.StepByStep.{run-unfit}
 use Rattle.group.proofs.fit.Symbol as fit
 use Rattle.group.proofs.fit.Met as fit-met
 use Rattle.group.proofs.step.Symbol as step
 use Rattle.group.proofs.step.Met as step-met
-use Rattle.lists.specs.Records.{flat}
-use Rattle.lists.proofs.Runs.{records-begin}
-use Rattle.lists.proofs.Locals.{Blocks, slot, all, empty, full, allocated, clears, freed, revalued, var, part-of}
-use Rattle.lists.proofs.Locals.{fills, receives, if-true, if-false}
-use Rattle.lists.proofs.Calls.{Fits, Steps, asks-fit}
-use Rattle.lists.proofs.Step as S
-use Rattle.lists.proofs.run_steps as run-steps
-use Rattle.lists.proofs.run_steps.Key.{name as #lists·run-steps}
-use Rattle.lists.proofs.run_steps.Statement.{statement}
-use Rattle.lists.proofs.run_steps.Code as code
-use Rattle.lists.proofs.run_steps.Proof.Frame.{stayed, Call, bankValue, stepsValue, En, Lent, AtEntry}
-use Rattle.lists.proofs.run_steps.Proof.Frame.{Post, exits}
-use Rattle.lists.proofs.run_steps.Proof.Turn.{State, Less, less-wf, Inv, turn}
+use Rattle.step_records.specs.Records.{flat}
+use Rattle.step_records.proofs.ByRecord.{records-begin}
+use Rattle.step_records.proofs.Locals.{Blocks, slot, all, empty, full, allocated, clears, freed, revalued, var, part-of}
+use Rattle.step_records.proofs.Locals.{fills, receives, if-true, if-false}
+use Rattle.step_records.proofs.Calls.{Fits, Steps, asks-fit}
+use Rattle.step_records.proofs.Step as S
+use Rattle.step_records.proofs.run_steps as run-steps
+use Rattle.step_records.proofs.run_steps.Key.{name as #step-records·run-steps}
+use Rattle.step_records.proofs.run_steps.Statement.{statement}
+use Rattle.step_records.proofs.run_steps.Code as code
+use Rattle.step_records.proofs.run_steps.Proof.Frame.{stayed, Call, bankValue, stepsValue, En, Lent, AtEntry}
+use Rattle.step_records.proofs.run_steps.Proof.Frame.{Post, exits}
+use Rattle.step_records.proofs.run_steps.Proof.Turn.{State, Less, less-wf, Inv, turn}
 mod Frame
 mod Turn
 
@@ -143,7 +143,7 @@ pub run-steps-spec : {M : Type 1} → statement M
 unfolding code.routine tablesOf
 run-steps-spec 𝓤 H 𝓜 𝓖 𝓡 =
     entered 𝓤 H (tripleOf 𝓤 H (𝓖 .A) run-steps.signature (run-steps.spec 𝓤 H (𝓖 .A) (𝓜 .mem) (𝓡 .run)))
-    (tables 𝓤 H 𝓜 𝓡 code.env .C) (tables 𝓤 H 𝓜 𝓡 code.env .Λ) #lists·run-steps code.function
+    (tables 𝓤 H 𝓜 𝓡 code.env .C) (tables 𝓤 H 𝓜 𝓡 code.env .Λ) #step-records·run-steps code.function
     (code.unfolded 𝓤 H 𝓜 𝓡)
     (meets 𝓤 H (𝓖 .A) (givenOf 𝓤 H 𝓜 𝓖) (𝓜 .mem) (𝓡 .run) (tablesOf 𝓤 H 𝓜 (tables 𝓤 H 𝓜 𝓡 code.env))
     (cited 𝓤 H (Fits 𝓤 H (𝓖 .A) (𝓜 .mem) (𝓡 .run)) 𝓜 𝓡 code.env fit.name fit.routine code.calls-group·fit

@@ -27,13 +27,13 @@ use denote.Exit.{yes}
 use Rattle.group.specs.declared.lists.Ran.{Ran}
 use Rattle.group.proofs.lists.Ran as R
 use Rattle.group.proofs.lists.Ran.Laws as R′
-use Rattle.lists.specs.declared.Step.{Step}
-use Rattle.lists.specs.Records.{StepsPromise}
-use Rattle.lists.proofs.Lending.{Mut, Shr}
-use Rattle.lists.proofs.Locals.{Blocks, laid, cells}
-use Rattle.lists.proofs.Step as S
-use Rattle.lists.proofs.run_steps as run-steps
-use Rattle.lists.proofs.run_steps.Code as code
+use Rattle.step_records.specs.declared.Step.{Step}
+use Rattle.step_records.specs.Records.{StepsPromise}
+use Rattle.step_records.proofs.Lending.{Mut, Shr}
+use Rattle.step_records.proofs.Locals.{Blocks, laid, cells}
+use Rattle.step_records.proofs.Step as S
+use Rattle.step_records.proofs.run_steps as run-steps
+use Rattle.step_records.proofs.run_steps.Code as code
 
 -- at a return the bank is still held, with its last words, and the records as they were
 abbrev pub stayed : Stays (run-steps.ended .signature .params) (run-steps.ended .kept)

@@ -24,7 +24,7 @@ static uint16_t bank[WORDS];
 static void must(int holds, const char *what)
 {
     if (!holds) {
-        fprintf(stderr, "lists: %s: does not hold\n", what);
+        fprintf(stderr, "step_records: %s: does not hold\n", what);
         exit(1);
     }
 }
@@ -68,6 +68,6 @@ int main(void)
 {
     check_stopped();
     check_refused();
-    puts("lists: as the flat form");
+    puts("step_records: as the flat form");
     return 0;
 }

@@ -4,7 +4,7 @@ use mathlib.Core.Path.{_≡_}
 use mathlib.Core.List.{List, [], _∷_}
 use Rattle.group.specs.Layout.{paper}
 use Rattle.group.specs.Lists.{outcome, runOf}
-use Rattle.lists.specs.declared.Step.{Step}
+use Rattle.step_records.specs.declared.Step.{Step}
 
 -- the words of the records, one after another
 unfoldable pub flat : List Step → List ℕ

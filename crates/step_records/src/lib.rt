@@ -1,5 +1,5 @@
 // A Rattle caller's own list of step records, walked by one thin function over the group's single step.
-ghost use Rattle.lists.specs.Records.{StepsPromise};
+ghost use Rattle.step_records.specs.Records.{StepsPromise};
 use group::Ran;
 
 // One step: its kind and three numbers.

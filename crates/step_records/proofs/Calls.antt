@@ -40,11 +40,11 @@ use Rattle.group.proofs.fit as fit
 use Rattle.group.proofs.fit.Symbol as fit-def
 use Rattle.group.proofs.step as step
 use Rattle.group.proofs.step.Symbol as step-def
-use Rattle.lists.specs.declared.Step.{Step}
-use Rattle.lists.proofs.Step as S
-use Rattle.lists.proofs.Step.Laws as S′
-use Rattle.lists.proofs.Lending.{Mut, Shr, named, lends-mut, mut-back, lends-shr, shr-back}
-use Rattle.lists.proofs.Runs.{stepBy}
+use Rattle.step_records.specs.declared.Step.{Step}
+use Rattle.step_records.proofs.Step as S
+use Rattle.step_records.proofs.Step.Laws as S′
+use Rattle.step_records.proofs.Lending.{Mut, Shr, named, lends-mut, mut-back, lends-shr, shr-back}
+use Rattle.step_records.proofs.ByRecord.{stepBy}
 
 -- what is known after a step was asked for by the record s, of a bank with the words l: the number r given back as the
 -- machine value w, and the bank's words zs

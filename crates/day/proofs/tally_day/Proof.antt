@@ -1,4 +1,4 @@
--- tally: the answer is at every turn the one from the tally so far over the entries that are left.
+-- tally_day: the answer is at every turn the one from the tally so far over the entries that are left.
 use Prim.Native.Nat.{ℕ, _-_, _≤_, _<_}
 use mathlib.Core.Path.{_≡_, sym, ap₂, _∙_}
 use mathlib.Core.List.{List}
@@ -10,11 +10,11 @@ use borrow.Author.Tests.{lt-ltb, le-ltb}
 use Rattle.group.specs.Layout.{paper, words}
 use Rattle.group.specs.Logs.{logRefusal}
 use Rattle.group.proofs.Asking.{Asked, log-asked}
-use Rattle.day.specs.Tallies.{Answer, answer, tally, empty, tallyOf}
+use Rattle.day.specs.Tallies.{DayAnswer, dayAnswer, tallied, empty, tallyOf}
 use Rattle.day.proofs.Asking.{tallyFrom, tally-unasked, tally-late, tally-asked}
 use Rattle.day.proofs.Asking.{from-given, from-stranger, from-end}
-use Rattle.day.proofs.tally.Statement.{statement}
-use Rattle.day.proofs.tally.Tie as tie
+use Rattle.day.proofs.tally_day.Statement.{statement}
+use Rattle.day.proofs.tally_day.Tie as tie
 
 abbrev Inv-loop : tie.InvT-loop
 Inv-loop bank who day log count t₀ k₀ t k =
@@ -24,7 +24,7 @@ abbrev μ-loop : tie.MeasureT-loop
 μ-loop bank who day log count t₀ k₀ t k = length log - k
 
 -- what `refused` answers is the definition's answer where that is a number and an empty tally
-refuses : {d : Answer} {r x n s : ℕ} → (x ≡ r) × (n ≡ 0) × (s ≡ 0) → d ≡ answer r empty → answer x (tally n s) ≡ d
+refuses : {d : DayAnswer} {r x n s : ℕ} → (x ≡ r) × (n ≡ 0) × (s ≡ 0) → d ≡ dayAnswer r empty → dayAnswer x (tallied n s) ≡ d
 refuses e f = rw (e .0, e .1, e .2) (sym f)
 
 -- the entry, from where the question of the log is not refused
@@ -162,8 +162,8 @@ loop-again c =
 returns-4 : tie.Need-returns-4 Inv-loop μ-loop
 returns-4 c = sym (c .before .loop .inv .1 ∙ from-end _ _ _ _ _ (c .loop-test .left))
 
-pub tally-spec : {M : Type 1} → statement M
-tally-spec =
+pub tally-day-spec : {M : Type 1} → statement M
+tally-day-spec =
     tie.close
     (tie.spec
     Inv-loop

@@ -12,9 +12,9 @@ use Rattle.group.specs.Fit.{fit}
 use Rattle.group.specs.Opening.{Answer, answer}
 use Rattle.group.specs.Promises.{stepOf}
 use Rattle.group.specs.Lists.{outcome, runFrom, runOf}
-use Rattle.group.proofs.Runs.{run-begins, run-more, run-stop}
-use Rattle.lists.specs.declared.Step.{Step}
-use Rattle.lists.specs.Records.{flat}
+use Rattle.group.proofs.StepByStep.{run-begins, run-more, run-stop}
+use Rattle.step_records.specs.declared.Step.{Step}
+use Rattle.step_records.specs.Records.{flat}
 
 -- four words a record
 pub flat-length : (ss : List Step) → length (flat ss) ≡ 4 * length ss
