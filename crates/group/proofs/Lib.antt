@@ -7,6 +7,7 @@ pub mod Rules
 pub mod Lowest
 pub mod Deciding
 pub mod Fitness
+pub mod Demand2
 pub mod Bounds
 pub mod Fresh
 pub mod Views

@@ -8,6 +8,7 @@ pub mod Step
 pub mod Refusals
 pub mod Writes
 pub mod Promises
+pub mod Demand2
 pub mod Lists
 pub mod Logs
 pub mod Above
