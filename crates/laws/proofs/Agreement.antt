@@ -11,17 +11,19 @@ use Rattle.group.specs.Fit.{Fit}
 use Rattle.group.specs.Step.{Step}
 use Rattle.group.specs.Refusals.{isUp, holding, hasDelivered}
 use Rattle.group.specs.Logs.{logOf}
-use Rattle.group.specs.Promises.{Allowed}
-use Rattle.laws.specs.Runs.{Ended, Settling}
+use Rattle.group.specs.Promises.{Allowed, after}
+use Rattle.laws.specs.Runs.{Run, Ended, Settling}
 use Rattle.laws.specs.Logs.{occurs}
-use Rattle.laws.specs.Demand.{Reached, Quorum}
+use Rattle.laws.specs.Demand.{Reached, Finished, Quorum}
+use Rattle.laws.proofs.Onward.{go-on, plain-run}
 use Rattle.laws.proofs.Sets.{Sets, Ok, Quorate}
 use Rattle.laws.proofs.Visible.{visible, seen-in}
 use Rattle.laws.proofs.Bridge.{recordSets, sets}
 use Rattle.laws.proofs.Steps.{setsOf}
 use Rattle.laws.proofs.End
 use Rattle.laws.proofs.Lifting.{reached-inv}
-use Rattle.laws.proofs.Ends.{reached-fit, reached-logs, quiet-sets}
+use Rattle.laws.proofs.Ends.{reached-by, reached-fit, reached-logs, quiet-sets}
+use Rattle.laws.proofs.Stays.{given-stays, delivered-stays}
 
 module _ (L : Layout) {n k : ℕ} {before : List Step} {x : List ℕ} (r : Reached L n k before x) where
   fx : Fit L x
@@ -80,3 +82,15 @@ module _ (L : Layout) {n k : ℕ} {before : List Step} {x : List ℕ} (r : Reach
         once j u
         (End.validity (L .messages) (setsOf L x) (reached-inv L r) ended m (subst (λ c. m < c) (sym shown-count) g)
         (quorate q) j (shown-up _ ∙ ap (isUp (words L x)) (shown-sender m g) ∙ s) (shown-up j ∙ u))
+
+-- what was delivered at any moment: it stays delivered, so the end has it, whatever was accepted in between
+pub agreement-for-good : (L : Layout) {n k : ℕ} {before es fs : List Step} {b x y : List ℕ} → Reached L n k before b
+    → Run (Allowed L) (after L) b es x → Finished L x fs y → Quorum L y
+    → (m i j : ℕ) → m < words L b count → hasDelivered (words L b) i m ≡ true → isUp (words L y) j ≡ true
+    → occurs m (logOf L y j) ≡ 1
+agreement-for-good L {n} {k} r p q z m i j l d u =
+    let run = go-on p (plain-run (q .run)) in
+    let end = reached-by L n k r run in
+    let fb = reached-fit L n k r in
+    let fy = reached-fit L n k end in
+    agreement L end (q .ended) z m (given-stays L run fb fy m i l) i j (delivered-stays L run fb fy m i l d) u

@@ -1,76 +1,50 @@
 -- Demand 3, whole: no hypothesis but that the group was opened and the steps were accepted.
-use mathlib.Core.Path.{_≡_, sym, ap, subst, subst₂, _∙_}
-use mathlib.Core.Bool.{true}
-use mathlib.Core.List.{List, map}
-use mathlib.Core.Option.{some}
+use mathlib.Core.List.{List}
 use Prim.Native.Nat.{ℕ}
-use native.Mathlib.Nat.{zero-add}
-use Rattle.group.specs.Layout.{Layout, paper}
+use native.Mathlib.Omega.{arith}
+use Rattle.group.specs.Layout.{Layout}
 use Rattle.group.specs.Step.{Step}
-use Rattle.group.specs.Promises.{Allowed, after, OpenPromise}
-use Rattle.group.specs.Lists.{RunPromise}
-use Rattle.settler.specs.Settling.{settleOf, SettlePromise}
-use Rattle.laws.specs.Runs.{Run}
-use Rattle.laws.specs.Settler.{chosen}
-use Rattle.laws.specs.Demand.{Reached, Finished, asksFor}
+use Rattle.group.specs.Promises.{stepOf}
+use Rattle.laws.specs.Demand.{Reached}
 use Rattle.laws.specs.Demand3.{Demand3}
+use Rattle.laws.proofs.Onward.{plain-run}
 use Rattle.laws.proofs.History.{records-hold-broadcasts}
-use Rattle.laws.proofs.Ends.{reached-on, reached-fit, reached-logs, same-end}
-use Rattle.laws.proofs.Agreement.{agreement, validity}
+use Rattle.laws.proofs.Unrefused.{never-one}
+use Rattle.laws.proofs.Past.{N-kept, mode-kept, count-kept, up-kept}
+use Rattle.laws.proofs.Stays.{down-stays, given-stays, delivered-stays, log-grows}
+use Rattle.laws.proofs.Ends.{reached-by, reached-on, reached-fit, reached-logs, opened-as, same-end}
+use Rattle.laws.proofs.Agreement.{agreement, agreement-for-good, validity}
 use Rattle.laws.proofs.Turns.{settler-in-turn}
-use Rattle.laws.proofs.Settler.{settler-run, steps-within-most, settler-finishes}
-use Rattle.laws.proofs.Listed.{run-leads, opening-done}
+use Rattle.laws.proofs.Settler.{steps-within-most, settler-finishes, u16-is-enough}
+use Rattle.laws.proofs.Telling.{settler-tells}
+use Rattle.laws.proofs.Tallied.{tally-not-refused}
 
-pub demand-3 : (L : Layout) (n k : ℕ) (before : List Step) (b : List ℕ) → Reached L n k before b → Demand3 L n before b
+pub demand-3 : (L : Layout) (n k : ℕ) (before : List Step) (b : List ℕ) → Reached L n k before b
+    → Demand3 L n k before b
+unfolding stepOf
 demand-3 L n k before b r =
     record {
+      opened-as = opened-as L n k r;
       logs-hold-broadcasts = reached-logs L n k r;
       records-hold-broadcasts = records-hold-broadcasts L n k (r .sized) (r .known) (r .run);
       fit = reached-fit L n k r;
+      steps-find-room = never-one L n k (r .sized) (r .known) (r .run);
+      no-stray-entry = λ who day l d. tally-not-refused L r who day l d;
+      down-stays = λ es x p. down-stays L p;
+      deliveries-stay = λ es x p m i l h.
+          (let fb = reached-fit L n k r in
+          let fx = reached-fit L n k (reached-by L n k r p) in
+          (given-stays L p fb fx m i l, delivered-stays L p fb fx m i l h));
+      logs-grow = λ es x p i l.
+          log-grows L (reached-fit L n k r) (reached-fit L n k (reached-by L n k r p)) p i
+          (omega (arith, opened-as L n k r .0));
       bounded = λ es x p. steps-within-most L r p;
+      header-stays = λ es x p. (N-kept L (plain-run p), mode-kept L (plain-run p), count-kept L p, up-kept L p);
       one-after-another = λ d h. (settler-finishes L r d h .1, settler-in-turn L d b (reached-fit L n k r));
       same-end = λ es fs x y p q. same-end L n k r p q;
+      settler-tells = λ d. settler-tells L r d;
+      u16-is-enough = u16-is-enough L r;
       agreement = λ es x p q m i j g d u. agreement L (reached-on L n k r (p .run)) (p .ended) q m g i j d u;
+      agreement-for-good = λ es fs x y p q z. agreement-for-good L r p q z;
       validity = λ es x p q m j g s u. validity L (reached-on L n k r (p .run)) (p .ended) q m g j s u;
     }
-
--- ---- for a caller of the code: what the promises of open, run and settle say together
-
--- an open that answers 0 and then a list, accepted as far as it goes, leave a bank that was reached by accepted steps:
--- those that the list's accepted part asks for
-pub opened-and-run : (b b₁ b₂ steps : List ℕ) (n k a s : ℕ) → OpenPromise b n k 0 b₁ → RunPromise b₁ steps a s b₂
-    → (before : List Step) × Reached paper n k before b₂ × (map some before ≡ asksFor a steps)
-opened-and-run b b₁ b₂ steps n k a s o p =
-    let h = opening-done paper b n k (sym (ap (λ x. x .refusal) o)) in
-    let r = run-leads paper b₁ steps in (
-      r .taken,
-      record {
-        sized = h .0;
-        known = h .1;
-        run =
-            subst₂ (λ x y. Run (Allowed paper) (after paper) x (r .taken) y) (ap (λ x. x .bank) o ∙ h .2)
-            (sym (ap (λ x. x .bank) p)) (r .run);
-      },
-      r .asked-for ∙ ap (λ x. asksFor x steps) (sym (ap (λ x. x .accepted) p ∙ r .counted ∙ zero-add _)),
-    )
-
--- a settle that answers that no step is left has finished it, one message after another
-pub settled-quietly : (b c : List ℕ) (n k : ℕ) (before : List Step) (budget r t : ℕ) → Reached paper n k before b
-    → SettlePromise b budget r t true c → Finished paper b (chosen paper budget b) c
-settled-quietly b c n k before budget r t h p =
-    let e = settler-run paper budget b (reached-fit paper n k h) in
-    let bank : c ≡ settleOf paper b budget .bank = ap (λ x. x .bank) p in
-    subst (Finished paper b (chosen paper budget b)) (sym bank)
-    (record { run = e .run; ended = e .quiet (sym (ap (λ x. x .quiet) p)) })
-
--- so whoever opens, runs a list and settles until no step is left has demand 3 of the bank that the accepted part of
--- the list leads to, and the end that demand 3 speaks of
-pub caller-knows : (b b₁ b₂ b₃ steps : List ℕ) (n k a s budget r t : ℕ) → OpenPromise b n k 0 b₁
-    → RunPromise b₁ steps a s b₂ → SettlePromise b₂ budget r t true b₃
-    → (before : List Step)
-    × (map some before ≡ asksFor a steps)
-    × Demand3 paper n before b₂
-    × Finished paper b₂ (chosen paper budget b₂) b₃
-caller-knows b b₁ b₂ b₃ steps n k a s budget r t o p q =
-    let h = opened-and-run b b₁ b₂ steps n k a s o p in
-    (h .0, h .2, demand-3 paper n k (h .0) b₂ (h .1), settled-quietly b₂ b₃ n k (h .0) budget r t (h .1) q)

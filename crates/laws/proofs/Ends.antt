@@ -1,7 +1,7 @@
 -- One end for every order: two finished runs are equally long and leave banks that are the same but for the order in
 -- logs.
 use mathlib.Core.Path.{_≡_, refl, sym, ap, _∙_}
-use mathlib.Core.Bool.{Bool, true, false, cond, true≢false}
+use mathlib.Core.Bool.{Bool, true, false, cond}
 use mathlib.Core.List.{List, _++_}
 use Prim.Native.Nat.{ℕ, zero, suc, _+_, _≤_, _<_}
 use native.Mathlib.Nat.{lt-irrefl}
@@ -21,37 +21,43 @@ use Rattle.group.specs.Logs.{logOf}
 use Rattle.group.specs.Promises.{Allowed, after}
 use Rattle.laws.specs.Runs.{Run, done, next, Ended, Settling}
 use Rattle.laws.specs.Logs.{occurs, LogsRight}
-use Rattle.laws.specs.Demand.{Reached, Finished, isEntry, Alike}
+use Rattle.laws.specs.Demand.{Reached, Finished, Alike}
+use Rattle.laws.proofs.Onward.{go-on, plain-run}
 use Rattle.laws.proofs.Sets.{Sets, Ok}
 use Rattle.laws.proofs.Visible.{visible, seen-in}
 use Rattle.laws.proofs.Bridge.{recordSets, sets}
 use Rattle.laws.proofs.Steps.{setsOf}
 use Rattle.laws.proofs.Allowing.{Roomy, ok-allowed}
 use Rattle.laws.proofs.Lifting.{lift-settling, reached-inv}
-use Rattle.laws.proofs.Reached.{fit-run}
+use Rattle.laws.proofs.Reached.{fit-run, opened-word}
 use Rattle.laws.proofs.Logs.{logs-hold-broadcasts, delivered-room}
 use Rattle.laws.proofs.Extent.{same-members}
-use Rattle.laws.proofs.Past.{stamp-kept, value-kept, N-kept, log-run}
+use Rattle.laws.proofs.Past.{N-kept, mode-kept, stamp-kept, value-kept, log-run}
 use Rattle.laws.proofs.Swap.{same-sets}
 
 module _ (L : Layout) (n k : ℕ) where
-  -- ---- a settling run goes on from where the accepted steps came
+  -- ---- steps go on from where the accepted steps came
 
-  go-on : {b c x : List ℕ} {ds es : List Step} → Run (Allowed L) (after L) b ds c
-      → Run (Settling (Allowed L)) (after L) c es x → Run (Allowed L) (after L) b (ds ++ es) x
-  go-on done done = done
-  go-on done (next o r) = next (o .1) (go-on done r)
-  go-on (next o r) q = next o (go-on r q)
+  pub reached-by : {before es : List Step} {b x : List ℕ} → Reached L n k before b → Run (Allowed L) (after L) b es x
+      → Reached L n k (before ++ es) x
+  reached-by r q = record { sized = r .sized; known = r .known; run = go-on (r .run) q }
 
   pub reached-on : {before es : List Step} {b x : List ℕ} → Reached L n k before b
       → Run (Settling (Allowed L)) (after L) b es x → Reached L n k (before ++ es) x
-  reached-on r q = record { sized = r .sized; known = r .known; run = go-on (r .run) q }
+  reached-on r q = reached-by r (plain-run q)
 
   pub reached-fit : {before : List Step} {b : List ℕ} → Reached L n k before b → Fit L b
   reached-fit r = fit-run L n k (r .sized) (r .known) (r .run)
 
   pub reached-logs : {before : List Step} {b : List ℕ} → Reached L n k before b → LogsRight L b
   reached-logs r = logs-hold-broadcasts L n k (r .sized) (r .known) (r .run)
+
+  pub opened-as : {before : List Step} {b : List ℕ} → Reached L n k before b
+      → (words L b N ≡ n) × (words L b mode ≡ k)
+  opened-as r = (
+    N-kept L (r .run) ∙ opened-word L n k (r .sized) N tt refl,
+    mode-kept L (r .run) ∙ opened-word L n k (r .sized) mode tt refl,
+  )
 
   -- ---- where the bank allows no settling step, its sets allow none
 
@@ -146,17 +152,17 @@ module _ (L : Layout) (n k : ℕ) where
             ∙ ap (howMany (hasDelivered (words L y) i)) (same-N-count .1)
             ∙ sym (reached-logs (reached-on r q) .lengths i (omega (arith, same-N-count .0)))
         go false h =
-            let j : words L b N ≤ i = omega (arith, ltb-false i (words L x N) h, N-kept L p) in
-            log-run L i l p .absent j ∙ sym (log-run L i l q .absent j)
+            let j : words L b N ≤ i = omega (arith, ltb-false i (words L x N) h, N-kept L (plain-run p)) in
+            log-run L i l (plain-run p) .absent j ∙ sym (log-run L i l (plain-run q) .absent j)
 
-    same-outside : (c : Place) → PlaceIn L c → isEntry c ≡ false → words L x c ≡ words L y c
+    same-outside : (c : Place) → PlaceIn L c → ((i k : ℕ) → c ≡ log i k → ⊥) → words L x c ≡ words L y c
     same-outside N h z = shown-header x y e .0 h
     same-outside mode h z = shown-header x y e .1 h
     same-outside count h z = shown-header x y e .2 h
     same-outside up h z = shown-header x y e .3 h
     same-outside (view i) h z = shown-header x y e .4 i h
     same-outside (logLength i) h z = same-length i h
-    same-outside (log i j) h z = absurd (true≢false z)
+    same-outside (log i j) h z = absurd (z i j refl)
     same-outside (message m sender) h z = shown-record x y e m .0 h
     same-outside (message m stamp) h z = stamp-kept L m (h .0) p ∙ sym (stamp-kept L m (h .0) q)
     same-outside (message m value) h z = value-kept L m (h .0) p ∙ sym (value-kept L m (h .0) q)
@@ -201,8 +207,8 @@ module _ (L : Layout) (n k : ℕ) where
           outside = same-outside;
           logs = same-logs;
           past = λ i j h u.
-              log-run L i (h .0) p .past j (h .1) u
-              ∙ sym (log-run L i (h .0) q .past j (h .1) (omega (arith, same-length i (h .0))));
+              log-run L i (h .0) (plain-run p) .past j (h .1) u
+              ∙ sym (log-run L i (h .0) (plain-run q) .past j (h .1) (omega (arith, same-length i (h .0))));
         }
 
   -- every order takes equally many steps, and ends with the same bank but for the order inside the logs

@@ -1,4 +1,5 @@
 -- What holds of every run, from the sets up to the banks.
+pub mod Onward
 pub mod Sets
 pub mod OneEnd
 pub mod Cells
@@ -29,12 +30,18 @@ pub mod History
 pub mod Unrefused
 pub mod Extent
 pub mod Past
+pub mod Stays
 pub mod Ends
 pub mod Agreement
 pub mod Candidates
 pub mod Choice
 pub mod Turns
+pub mod Budget
 pub mod Settler
+pub mod Telling
+pub mod Tallied
 pub mod Listed
 pub mod Demand3
+pub mod Calls
+pub mod CallsFromC
 pub mod Table

@@ -1,53 +1,53 @@
--- What a caller of opening and lists has: a bank reached from an opened group by the steps that its list asked for.
-use mathlib.Core.Path.{_≡_, refl, sym, ap, ap₂, subst}
+-- What an answer tells of the steps taken: a step that is not refused was allowed; a list's accepted steps are a run.
+use mathlib.Core.Path.{_≡_, refl, sym, ap, subst, _∙_}
 use mathlib.Core.Bool.{Bool, true, false, cond}
-use mathlib.Core.List.{List, [], _∷_, map}
-use mathlib.Core.Option.{Option, none, some}
-use Prim.Native.Nat.{ℕ, _+_, _%_}
+use mathlib.Core.List.{List, [], _∷_, _++_}
+use mathlib.Core.Option.{some}
+use Prim.Native.Nat.{ℕ, zero, suc, _+_, _%_}
 use native.Mathlib.Omega.{arith}
 use lib.Dec.{eqb}
-use lib.ListN.{length}
+use lib.ListN.{length, length-append}
 use borrow.Author.Tests.{eq-eqb, eqb-true}
 use Rattle.group.specs.Layout.{Layout, size}
 use Rattle.group.specs.Fit.{fit, isSize, isMode}
 use Rattle.group.specs.Opening.{opened, openOf}
 use Rattle.group.specs.Step.{Step, asked}
 use Rattle.group.specs.Refusals.{_else_}
-use Rattle.group.specs.Promises.{Allowed, after, askedRefusal, askedAfter, refusalOf, stepOf}
+use Rattle.group.specs.Promises.{Allowed, after, refusalOf, stepOf}
 use Rattle.group.specs.Lists.{Outcome, outcome, runFrom, runOf}
 use Rattle.group.proofs.Rules.{pass, all-hold}
-use Rattle.group.proofs.Fitness.{allowed-step, not-refused}
+use Rattle.group.proofs.Demand2.{demand-2}
 use Rattle.laws.specs.Runs.{Run, done, next}
-use Rattle.laws.specs.Demand.{asksFor}
+use Rattle.laws.specs.Calls.{asksFor, asksFirst}
+use Rattle.laws.proofs.Onward.{go-on}
 
 module _ (L : Layout) where
-  -- from b, the outcome of a list with n steps accepted before it: the steps that were accepted since, which are those
-  -- that the list's first words ask for
+  -- ---- a single step
+
+  -- the step asked for, by an answer of 0: it is one, it was allowed, and the bank is the one after it
+  pub stepped : (b : List ℕ) (kind x y z : ℕ) → refusalOf L b kind x y z ≡ 0
+      → Run (Allowed L) (after L) b (asksFor (asked kind x y z)) (stepOf L b kind x y z .bank)
+      × (length (asksFor (asked kind x y z)) ≡ 1)
+  unfolding stepOf
+  stepped b kind x y z e =
+      let (s, q, a, d) = demand-2 L b kind x y z .done-allowed e in
+      let bank : after L b s ≡ stepOf L b kind x y z .bank = sym (ap (λ o. o .bank) d) in (
+        subst (λ o. Run (Allowed L) (after L) b (asksFor o) (stepOf L b kind x y z .bank)) (sym q)
+            (subst (Run (Allowed L) (after L) b (s ∷ [])) bank (next a done)),
+        ap (λ o. length (asksFor o)) q,
+      )
+
+  -- ---- a list
+
+  -- from b, the outcome of a list with n steps accepted before it: how many more were accepted, and that they are a run
   pub record Leads (b steps : List ℕ) (n : ℕ) (o : Outcome) : Type 0 where
-    pub taken : List Step
-    pub run : Run (Allowed L) (after L) b taken (o .bank)
-    pub counted : o .accepted ≡ n + length taken
-    pub asked-for : map some taken ≡ asksFor (length taken) steps
+    pub more : ℕ
+    pub counted : o .accepted ≡ n + more
+    pub run : Run (Allowed L) (after L) b (asksFirst more steps) (o .bank)
+    pub long : length (asksFirst more steps) ≡ more
 
   stopped : (b steps : List ℕ) (n r : ℕ) → Leads b steps n (outcome n r b)
-  stopped b steps n r = record { taken = []; run = done; counted = omega arith; asked-for = refl }
-
-  -- a step that is accepted is an allowed step
-  accepted-step : (b : List ℕ) (kind x y z : ℕ) → refusalOf L b kind x y z ≡ 0
-      → (s : Step) × Allowed L b s × (stepOf L b kind x y z .bank ≡ after L b s) × (asked kind x y z ≡ some s)
-  unfolding stepOf
-  accepted-step b kind x y z e = go (asked kind x y z) refl
-    where
-      go : (o : Option Step) → asked kind x y z ≡ o
-          → (s : Step)
-          × Allowed L b s
-          × (cond (eqb (refusalOf L b kind x y z) 0) (askedAfter L b (asked kind x y z)) b ≡ after L b s)
-          × (asked kind x y z ≡ some s)
-      go none q =
-          let h : _≡_ {A = ℕ} 2 0 = subst (λ o. askedRefusal L b o ≡ 0) q (not-refused L b kind x y z e) in
-          absurd (omega arith)
-      go (some s) q =
-          (s, allowed-step L b kind x y z s e q, pass _ (eq-eqb _ _ e) (ap (askedAfter L b) q), q)
+  stopped b steps n r = record { more = 0; counted = omega arith; run = done; long = refl }
 
   listed : (steps : List ℕ) (n : ℕ) (b : List ℕ) → Leads b steps n (runFrom L n b steps)
   unfolding runFrom
@@ -65,12 +65,13 @@ module _ (L : Layout) where
           → Leads (stepOf L b kind x y z .bank) rest (n + 1) more
           → Leads b (kind ∷ x ∷ y ∷ z ∷ rest) n (cond t more (outcome n (refusalOf L b kind x y z) b))
       go true e h =
-          let s = accepted-step b kind x y z (eqb-true _ 0 e) in
+          let (first, one) = stepped b kind x y z (eqb-true _ 0 e) in
           record {
-            taken = s .0 ∷ h .taken;
-            run = next (s .1) (subst (λ c. Run (Allowed L) (after L) c (h .taken) (more .bank)) (s .2) (h .run));
+            more = suc (h .more);
             counted = omega (arith, h .counted);
-            asked-for = ap₂ _∷_ (sym (s .3)) (h .asked-for);
+            run = go-on first (h .run);
+            long =
+                length-append (asksFor (asked kind x y z)) (asksFirst (h .more) rest) ∙ omega (arith, one, h .long);
           }
       go false e h = stopped b (kind ∷ x ∷ y ∷ z ∷ rest) n (refusalOf L b kind x y z)
 
@@ -84,7 +85,8 @@ module _ (L : Layout) where
       go true false = stopped b steps 0 13
       go false t = stopped b steps 0 1
 
-  -- an opening that was not refused
+  -- ---- an opening that was not refused
+
   pub opening-done : (b : List ℕ) (n k : ℕ) → openOf L b n k .refusal ≡ 0
       → (isSize L n ≡ true) × (isMode k ≡ true) × (openOf L b n k .bank ≡ opened L n k)
   unfolding openOf

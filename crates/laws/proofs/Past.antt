@@ -1,4 +1,5 @@
--- What settling leaves alone: stamps and values, the logs of controllers that are not there, words past a log's end.
+-- What settling leaves alone: the header, stamps and values; and what any step leaves of a log: its entries, the words
+-- past its end, and the logs of controllers that are not there.
 use mathlib.Core.Path.{_≡_, refl, ap, _∙_}
 use mathlib.Core.Bool.{Bool, true, false, cond, not, _&&_, _||_, false≢true}
 use mathlib.Core.List.{List}
@@ -7,11 +8,13 @@ use native.Mathlib.Nat.{lt-irrefl}
 use native.Mathlib.Omega.{arith}
 use lib.Dec.{eqb, ltb}
 use borrow.Author.Tests.{eq-eqb, eqb-true, ltb-true}
-use Rattle.group.specs.Place.{Place, Words, N, logLength, log, message, stamp, value}
+use Rattle.group.specs.Place.{Place, Words, N, mode, count, up, logLength, log, message, stamp, value}
 use Rattle.group.specs.Layout.{Layout, words, PlaceIn}
 use Rattle.group.specs.Step.{Step, broadcast, send, receive, deliver, crash, detect, lose}
+use Rattle.group.specs.Writes.{writes}
 use Rattle.group.specs.Promises.{Allowed, after}
 use Rattle.group.proofs.Places.{key}
+use Rattle.group.proofs.Reading.{later}
 use Rattle.group.proofs.Names.{word-after}
 use Rattle.laws.specs.Runs.{Run, done, next, Settling, settles}
 use Rattle.laws.proofs.Untouched.{keeps, untouched}
@@ -45,28 +48,66 @@ said-stays w (detect i j) r m e l z = ap (λ t. t || eqb r 4) l
 said-stays w (lose from to k) r m e l z = absurd (false≢true e)
 
 module _ (L : Layout) where
-  -- what every settling step leaves alone a run of them does
-  kept : (p : Place) → PlaceIn L p → ((w : Words) (s : Step) → settles s ≡ true → keeps w s (key p) ≡ true)
+  -- a place that every step of a run leaves alone holds what it held
+  kept : (allows : List ℕ → Step → Type 0) → ((b : List ℕ) (e : Step) → allows b e → Allowed L b e)
+      → (p : Place) → PlaceIn L p → ((b : List ℕ) (e : Step) → allows b e → keeps (words L b) e (key p) ≡ true)
+      → {b x : List ℕ} {es : List Step} → Run allows (after L) b es x → words L x p ≡ words L b p
+  kept allows into p l h done = refl
+  kept allows into p l h {b} (next {e = e} a r) =
+      kept allows into p l h r ∙ untouched L b e (into b e a) p l (h b e a)
+
+  settling-kept : (p : Place) → PlaceIn L p → ((w : Words) (s : Step) → settles s ≡ true → keeps w s (key p) ≡ true)
       → {b x : List ℕ} {es : List Step} → Run (Settling (Allowed L)) (after L) b es x → words L x p ≡ words L b p
-  kept p l h done = refl
-  kept p l h {b} (next {e = e} (s, a) r) = kept p l h r ∙ untouched L b e a p l (h (words L b) e s)
+  settling-kept p l h = kept (Settling (Allowed L)) (λ b e a. a .1) p l (λ b e a. h (words L b) e (a .0))
+
+  -- N and the mode, which no step writes
+  module _ {b x : List ℕ} {es : List Step} (r : Run (Allowed L) (after L) b es x) where
+    pub N-kept : words L x N ≡ words L b N
+    N-kept = kept (Allowed L) (λ b e a. a) N tt (λ b e a. refl) r
+
+    pub mode-kept : words L x mode ≡ words L b mode
+    mode-kept = kept (Allowed L) (λ b e a. a) mode tt (λ b e a. refl) r
 
   pub stamp-kept : (m : ℕ) → m < L .messages → {b x : List ℕ} {es : List Step}
       → Run (Settling (Allowed L)) (after L) b es x → words L x (message m stamp) ≡ words L b (message m stamp)
-  stamp-kept m l r = kept (message m stamp) (l, omega arith) (λ w s e. said-stays w s 1 m e refl refl) r
+  stamp-kept m l r = settling-kept (message m stamp) (l, omega arith) (λ w s e. said-stays w s 1 m e refl refl) r
 
   pub value-kept : (m : ℕ) → m < L .messages → {b x : List ℕ} {es : List Step}
       → Run (Settling (Allowed L)) (after L) b es x → words L x (message m value) ≡ words L b (message m value)
-  value-kept m l r = kept (message m value) (l, omega arith) (λ w s e. said-stays w s 2 m e refl refl) r
+  value-kept m l r = settling-kept (message m value) (l, omega arith) (λ w s e. said-stays w s 2 m e refl refl) r
 
-  pub N-kept : {b x : List ℕ} {es : List Step} → Run (Settling (Allowed L)) (after L) b es x
-      → words L x N ≡ words L b N
-  N-kept r = kept N tt (λ w s e. refl) r
+  count-stays : (w : Words) (s : Step) → settles s ≡ true → keeps w s (key count) ≡ true
+  count-stays w (broadcast who s v) e = absurd (false≢true e)
+  count-stays w (send from to m) e = refl
+  count-stays w (receive i from m) e = refl
+  count-stays w (deliver i m) e = refl
+  count-stays w (crash who) e = absurd (false≢true e)
+  count-stays w (detect i j) e = refl
+  count-stays w (lose from to m) e = absurd (false≢true e)
+
+  up-stays : (w : Words) (s : Step) → settles s ≡ true → later (writes L w s) up (w up) ≡ w up
+  up-stays w (broadcast who s v) e = absurd (false≢true e)
+  up-stays w (send from to m) e = refl
+  up-stays w (receive i from m) e = refl
+  up-stays w (deliver i m) e = refl
+  up-stays w (crash who) e = absurd (false≢true e)
+  up-stays w (detect i j) e = refl
+  up-stays w (lose from to m) e = absurd (false≢true e)
+
+  pub count-kept : {b x : List ℕ} {es : List Step} → Run (Settling (Allowed L)) (after L) b es x
+      → words L x count ≡ words L b count
+  count-kept r = settling-kept count tt count-stays r
+
+  pub up-kept : {b x : List ℕ} {es : List Step} → Run (Settling (Allowed L)) (after L) b es x
+      → words L x up ≡ words L b up
+  up-kept done = refl
+  up-kept {b} (next {e = e} (s, a) r) = up-kept r ∙ word-after L b e a up tt ∙ up-stays (words L b) e s
 
   -- ---- lengths and logs, which only a deliver touches
 
   pub record LogStep (b c : List ℕ) (i : ℕ) : Type 0 where
     pub grows : words L b (logLength i) ≤ words L c (logLength i)
+    pub same : (k : ℕ) → k < L .messages → k < words L b (logLength i) → words L c (log i k) ≡ words L b (log i k)
     pub absent : words L b N ≤ i → words L c (logLength i) ≡ words L b (logLength i)
     pub past : (k : ℕ) → k < L .messages → words L c (logLength i) ≤ k → words L c (log i k) ≡ words L b (log i k)
 
@@ -78,6 +119,7 @@ module _ (L : Layout) where
       let e = untouched L b s a (logLength i) l h in
       record {
         grows = omega (arith, e);
+        same = λ k j _. untouched L b s a (log i k) (l, j) (g k);
         absent = λ _. e;
         past = λ k j _. untouched L b s a (log i k) (l, j) (g k);
       }
@@ -87,6 +129,10 @@ module _ (L : Layout) where
   delivered-step b j m a i l =
       record {
         grows = go (eqb j i) refl;
+        same = λ k h g.
+            word-after L b (deliver j m) a (log i k) (l, h)
+            ∙ unless-both (words L b (logLength j)) k j i m _
+            (λ e. lt-irrefl k (omega (arith, g, e .0, ap (λ i. words L b (logLength i)) (e .1))));
         absent = λ h. here ∙ unless j i _ _ (λ e. lt-irrefl j (omega (
           arith,
           ltb-true j (words L b N)
@@ -114,24 +160,25 @@ module _ (L : Layout) where
       go false e =
           omega (arith, here ∙ ap (λ t. cond (t && true) (words L b (logLength j) + 1) (words L b (logLength i))) e)
 
-  log-step : (b : List ℕ) (s : Step) → settles s ≡ true → Allowed L b s → (i : ℕ) → i < L .controllers
-      → LogStep b (after L b s) i
-  log-step b (broadcast who s v) e a i l = absurd (false≢true e)
-  log-step b (send from to m) e a i l = still b (send from to m) a i l refl (λ k. refl)
-  log-step b (receive j from m) e a i l = still b (receive j from m) a i l refl (λ k. refl)
-  log-step b (deliver j m) e a i l = delivered-step b j m a i l
-  log-step b (crash who) e a i l = absurd (false≢true e)
-  log-step b (detect j h) e a i l = still b (detect j h) a i l refl (λ k. refl)
-  log-step b (lose from to m) e a i l = absurd (false≢true e)
+  log-step : (b : List ℕ) (s : Step) → Allowed L b s → (i : ℕ) → i < L .controllers → LogStep b (after L b s) i
+  log-step b (broadcast who s v) a i l = still b (broadcast who s v) a i l refl (λ k. refl)
+  log-step b (send from to m) a i l = still b (send from to m) a i l refl (λ k. refl)
+  log-step b (receive j from m) a i l = still b (receive j from m) a i l refl (λ k. refl)
+  log-step b (deliver j m) a i l = delivered-step b j m a i l
+  log-step b (crash who) a i l = still b (crash who) a i l refl (λ k. refl)
+  log-step b (detect j h) a i l = still b (detect j h) a i l refl (λ k. refl)
+  log-step b (lose from to m) a i l = still b (lose from to m) a i l refl (λ k. refl)
 
-  pub log-run : (i : ℕ) → i < L .controllers → {b x : List ℕ} {es : List Step}
-      → Run (Settling (Allowed L)) (after L) b es x → LogStep b x i
-  log-run i l done = record { grows = omega arith; absent = λ _. refl; past = λ k j g. refl }
-  log-run i l {b} {x} (next {e = e} (s, a) r) =
-      let h = log-step b e s a i l in
+  pub log-run : (i : ℕ) → i < L .controllers → {b x : List ℕ} {es : List Step} → Run (Allowed L) (after L) b es x
+      → LogStep b x i
+  log-run i l done =
+      record { grows = omega arith; same = λ k j g. refl; absent = λ _. refl; past = λ k j g. refl }
+  log-run i l {b} {x} (next {e = e} a r) =
+      let h = log-step b e a i l in
       let g = log-run i l r in
       record {
         grows = omega (arith, h .grows, g .grows);
-        absent = λ q. g .absent (omega (arith, N-kept (next (s, a) done))) ∙ h .absent q;
+        same = λ k j q. g .same k j (omega (arith, h .grows)) ∙ h .same k j q;
+        absent = λ q. g .absent (omega (arith, untouched L b e a N tt refl)) ∙ h .absent q;
         past = λ k j q. g .past k j q ∙ h .past k j (omega (arith, g .grows));
       }

@@ -15,11 +15,13 @@ use Rattle.group.specs.Promises.{Allowed, after}
 use Rattle.group.proofs.Rules.{pass}
 use Rattle.group.proofs.Fitness.{facts-fit}
 use Rattle.group.proofs.Kept.{fit-after}
+use Rattle.group.proofs.Views.{size-range}
 use Rattle.settler.specs.Candidates
 use Rattle.settler.specs.Settling.{Ending, ending, onNext, settleFrom, settleOf}
 use Rattle.laws.specs.Runs.{Run, done, next, Ended, Settling, settlings, most}
 use Rattle.laws.specs.Demand.{Reached, Finished}
 use Rattle.laws.specs.Settler.{chosen}
+use Rattle.laws.proofs.Onward.{plain-run}
 use Rattle.laws.proofs.Sets.{Ok, act}
 use Rattle.laws.proofs.Visible.{visible}
 use Rattle.laws.proofs.Bridge.{sets}
@@ -32,12 +34,7 @@ use Rattle.laws.proofs.Allowing.{allowed-ok}
 use Rattle.laws.proofs.Lifting.{lift-settling, reached-sets, reached-inv}
 use Rattle.laws.proofs.Reached.{fit-run}
 use Rattle.laws.proofs.Choice.{Next, next-is}
-
--- a run of settling steps is a run
-pub plain-run : {S : Type 0} {allows : S → Step → Type 0} {act : S → Step → S} {s t : S} {es : List Step}
-    → Run (Settling allows) act s es t → Run allows act s es t
-plain-run done = done
-plain-run (next o r) = next (o .1) (plain-run r)
+use Rattle.laws.proofs.Budget.{most-grows}
 
 -- what an ending says of the steps es, taken from b with k taken before and d left in the budget
 pub record EndingOf (L : Layout) (k d : ℕ) (b : List ℕ) (es : List Step) (o : Ending) : Type 0 where
@@ -144,6 +141,13 @@ module _ (L : Layout) where
         let h = settler-run d b (fit-run L n k (r .sized) (r .known) (r .run)) in
         let q = settler-ends h (reached-inv L r) (omega (arith, work-within-most)) in
         (q, record { run = h .run; ended = h .quiet q })
+
+    -- a u16 is budget enough where no bank of the layout has more to do
+    pub u16-is-enough : most (L .controllers) (L .messages) ≤ 65535 → settleOf L b 65535 .quiet ≡ true
+    u16-is-enough l =
+        let f = fit-run L n k (r .sized) (r .known) (r .run) in
+        let few : n ≤ L .controllers = size-range L n (r .sized) .1 in
+        settler-finishes 65535 (omega (arith, most-grows few (f .given))) .0
 
 -- "that is 17,136 for N = 16 and c = 32"
 pub full-bank : most 16 32 ≡ 17136

@@ -1,17 +1,16 @@
 -- What demand 3 speaks of: a group that was opened, any accepted steps, then settling steps until none is left.
-use Prim.Native.Nat.{ℕ, zero, suc, _*_, _≤_, _<_}
+use Prim.Native.Nat.{ℕ, _*_, _≤_, _<_}
 use mathlib.Core.Path.{_≡_}
-use mathlib.Core.Bool.{Bool, true, false}
+use mathlib.Core.Bool.{true}
 use mathlib.Core.Logic.{_⊎_}
-use mathlib.Core.List.{List, [], _∷_}
-use mathlib.Core.Option.{Option}
+use mathlib.Core.List.{List}
 use lib.ListN.{length}
 use Rattle.sets.specs.Set.{countBelow}
-use Rattle.group.specs.Place.{Place, N, mode, count, up, view, logLength, log, message}
+use Rattle.group.specs.Place.{Place, N, mode, up, logLength, log}
 use Rattle.group.specs.Layout.{Layout, words, PlaceIn}
 use Rattle.group.specs.Fit.{isSize, isMode, allAck}
 use Rattle.group.specs.Opening.{opened}
-use Rattle.group.specs.Step.{Step, asked}
+use Rattle.group.specs.Step.{Step}
 use Rattle.group.specs.Logs.{logOf}
 use Rattle.group.specs.Promises.{Allowed, after}
 use Rattle.laws.specs.Runs.{Run, Ended, Settling}
@@ -28,22 +27,11 @@ pub record Finished (L : Layout) (b : List ℕ) (es : List Step) (x : List ℕ) 
   pub run : Run (Settling (Allowed L)) (after L) b es x
   pub ended : Ended (Settling (Allowed L)) x
 
--- an entry of a log
-abbrev pub isEntry : Place → Bool
-isEntry N = false
-isEntry mode = false
-isEntry count = false
-isEntry up = false
-isEntry (view i) = false
-isEntry (logLength i) = false
-isEntry (log i k) = true
-isEntry (message m f) = false
-
 -- two banks that are the same but for the order inside the logs: every word outside the logs is equal, each log holds
 -- each number as often as the other bank's, and the words past its end are equal
 pub record Alike (L : Layout) (x y : List ℕ) : Type 0 where
   pub long : length x ≡ length y
-  pub outside : (p : Place) → PlaceIn L p → isEntry p ≡ false → words L x p ≡ words L y p
+  pub outside : (p : Place) → PlaceIn L p → ((i k : ℕ) → p ≡ log i k → ⊥) → words L x p ≡ words L y p
   pub logs : (i m : ℕ) → i < words L x N → occurs m (logOf L x i) ≡ occurs m (logOf L y i)
   pub past : (i k : ℕ) → PlaceIn L (log i k) → words L x (logLength i) ≤ k → words L x (log i k) ≡ words L y (log i k)
 
@@ -51,12 +39,3 @@ pub record Alike (L : Layout) (x y : List ℕ) : Type 0 where
 abbrev pub Quorum : Layout → List ℕ → Type 0
 Quorum L b =
     (words L b mode ≡ allAck) ⊎ (words L b N < 2 * countBelow (words L b up) (words L b N))
-
--- what the first a steps of a list of words ask for, four words a step
-abbrev pub asksFor : ℕ → List ℕ → List (Option Step)
-asksFor zero steps = []
-asksFor (suc a) (kind ∷ x ∷ y ∷ z ∷ rest) = asked kind x y z ∷ asksFor a rest
-asksFor (suc a) [] = []
-asksFor (suc a) (kind ∷ []) = []
-asksFor (suc a) (kind ∷ x ∷ []) = []
-asksFor (suc a) (kind ∷ x ∷ y ∷ []) = []

@@ -5,4 +5,6 @@ pub mod History
 pub mod Demand
 pub mod Settler
 pub mod Demand3
+pub mod Calls
+pub mod CallsFromC
 pub mod Table

@@ -8,30 +8,41 @@ use Rattle.group.specs.Layout.{paper}
 use Rattle.group.specs.Opening.{Answer, answer, openOf}
 use Rattle.group.specs.Promises.{stepOf}
 use Rattle.settler.specs.Settling.{settleOf}
-use Rattle.loargwen.specs.Bytes.{wordsOf}
+use Rattle.loargwen.specs.Bytes.{wordsOf, bytesOf}
 use Rattle.loargwen.specs.Face.{isBank, bytesAfter, onBytes, OpenBytes, StepBytes, SettledBytes, SettleBytes}
 use Rattle.loargwen.proofs.Crossing.{words-back}
 use Rattle.loargwen.proofs.Answers.{kept, written}
 
 -- the number r and the bytes afterwards, where the crate below answers d and leaves the bank b
-record Left (bytes new : List ℕ) (r d : ℕ) (b : List ℕ) : Type 0 where
-  number : r ≡ cond (isBank bytes) d 1
-  held : new ≡ cond (isBank bytes) (bytesAfter bytes d b) bytes
+pub record Left (bytes new : List ℕ) (r d : ℕ) (b : List ℕ) : Type 0 where
+  pub number : r ≡ cond (isBank bytes) d 1
+  pub held : new ≡ cond (isBank bytes) (bytesAfter bytes d b) bytes
 
 module _ {bytes new b : List ℕ} {r d : ℕ} (l : Left bytes new r d b) where
-  unchanged : (r ≡ 0 → ⊥) → new ≡ bytes
+  pub unchanged : (r ≡ 0 → ⊥) → new ≡ bytes
   unchanged h = go (isBank bytes) (l .number) (l .held)
     where
       go : (t : Bool) → r ≡ cond t d 1 → new ≡ cond t (bytesAfter bytes d b) bytes → new ≡ bytes
       go true e k = k ∙ kept bytes b (λ z. h (e ∙ z))
       go false e k = k
 
-  handed-on : r ≡ 0 → wordsOf new ≡ b
-  handed-on z = go (isBank bytes) (l .number) (l .held)
+  -- an answer of 0 is the crate's below, and its bank is stored
+  pub answered : r ≡ 0 → d ≡ 0
+  answered z = go (isBank bytes) (l .number)
     where
-      go : (t : Bool) → r ≡ cond t d 1 → new ≡ cond t (bytesAfter bytes d b) bytes → wordsOf new ≡ b
-      go true e k = ap wordsOf (k ∙ written bytes b (sym e ∙ z)) ∙ words-back b
+      go : (t : Bool) → r ≡ cond t d 1 → d ≡ 0
+      go true e = sym e ∙ z
+      go false e = absurd (omega arith)
+
+  pub stored : r ≡ 0 → new ≡ bytesOf b
+  stored z = go (isBank bytes) (l .number) (l .held)
+    where
+      go : (t : Bool) → r ≡ cond t d 1 → new ≡ cond t (bytesAfter bytes d b) bytes → new ≡ bytesOf b
+      go true e k = k ∙ written bytes b (sym e ∙ z)
       go false e k = absurd (omega arith)
+
+  pub handed-on : r ≡ 0 → wordsOf new ≡ b
+  handed-on z = ap wordsOf (stored z) ∙ words-back b
 
 -- a part of an answer that is chosen is chosen so itself
 chosen : {A B : Type 0} (part : A → B) (t : Bool) (x y : A) → part (cond t x y) ≡ cond t (part x) (part y)
@@ -48,7 +59,7 @@ answer-left bytes new r due e = record {
 -- ---- each call that may write
 
 module _ (bytes : List ℕ) (n k : ℕ) {r : ℕ} {new : List ℕ} (e : OpenBytes bytes n k r new) where
-  open-left : Left bytes new r (openOf paper (wordsOf bytes) n k .refusal) (openOf paper (wordsOf bytes) n k .bank)
+  pub open-left : Left bytes new r (openOf paper (wordsOf bytes) n k .refusal) (openOf paper (wordsOf bytes) n k .bank)
   open-left = answer-left bytes new r _ e
 
   pub open-refused : (r ≡ 0 → ⊥) → new ≡ bytes
@@ -58,7 +69,7 @@ module _ (bytes : List ℕ) (n k : ℕ) {r : ℕ} {new : List ℕ} (e : OpenByte
   open-hands-on = handed-on open-left
 
 module _ (bytes : List ℕ) (kind x y z : ℕ) {r : ℕ} {new : List ℕ} (e : StepBytes bytes kind x y z r new) where
-  step-left : Left bytes new r (stepOf paper (wordsOf bytes) kind x y z .refusal)
+  pub step-left : Left bytes new r (stepOf paper (wordsOf bytes) kind x y z .refusal)
       (stepOf paper (wordsOf bytes) kind x y z .bank)
   step-left = answer-left bytes new r _ e
 
@@ -69,7 +80,7 @@ module _ (bytes : List ℕ) (kind x y z : ℕ) {r : ℕ} {new : List ℕ} (e : S
   step-hands-on = handed-on step-left
 
 module _ (bytes : List ℕ) (budget : ℕ) {r k q : ℕ} {new : List ℕ} (e : SettleBytes bytes budget r k q new) where
-  settle-left : Left bytes new r (settleOf paper (wordsOf bytes) budget .refusal)
+  pub settle-left : Left bytes new r (settleOf paper (wordsOf bytes) budget .refusal)
       (settleOf paper (wordsOf bytes) budget .bank)
   settle-left = record {
     number = ap (λ s. s .refusal) e ∙ chosen (λ (s : SettledBytes). s .refusal) (isBank bytes) _ _;

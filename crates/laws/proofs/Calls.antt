@@ -1,0 +1,104 @@
+-- Whatever is called once a group is open, and whatever is answered: the steps that the answers tell of lead to the bank.
+use mathlib.Core.Path.{_≡_, refl, sym, ap, subst, _∙_}
+use mathlib.Core.Bool.{Bool, true, false, cond}
+use mathlib.Core.List.{List, [], _∷_}
+use Prim.Native.Nat.{ℕ}
+use native.Mathlib.Nat.{zero-add}
+use lib.Dec.{eqb}
+use lib.ListN.{length}
+use borrow.Author.Tests.{eqb-true, eqb-false}
+use Rattle.group.specs.Layout.{paper}
+use Rattle.group.specs.Opening
+use Rattle.group.specs.Step.{Step, asked}
+use Rattle.group.specs.Promises.{Allowed, after, stepOf, refusalOf, StepPromise, OpenPromise}
+use Rattle.group.specs.Lists.{outcome, runOf}
+use Rattle.group.proofs.Kept.{refused-leaves, open-refused-leaves}
+use Rattle.settler.specs.Settling.{ending, settleOf, SettlePromise}
+use Rattle.step_records.specs.Records.{flat}
+use Rattle.laws.specs.Runs.{Run, done}
+use Rattle.laws.specs.Demand.{Reached}
+use Rattle.laws.specs.Settler.{chosen, Tells}
+use Rattle.laws.specs.Calls.{asksFor, asksFirst, unlessRefused, Call, openRefused, step, run, runSteps, settle, Promised}
+use Rattle.laws.specs.Calls.{taken, counted, Calls, opened, called, Called, CallersRely, EveryCaller}
+use Rattle.laws.proofs.Ends.{reached-by}
+use Rattle.laws.proofs.Onward.{plain-run}
+use Rattle.laws.proofs.Telling.{settler-tells}
+use Rattle.laws.proofs.Listed.{stepped, run-leads, opening-done}
+use Rattle.laws.proofs.Demand3.{demand-3}
+
+-- the steps es lead from b to c, and are t in number
+record Led (b : List ℕ) (es : List Step) (t : ℕ) (c : List ℕ) : Type 0 where
+  run : Run (Allowed paper) (after paper) b es c
+  long : length es ≡ t
+
+unmoved : {b c : List ℕ} → c ≡ b → Led b [] 0 c
+unmoved {b} e = record { run = subst (Run (Allowed paper) (after paper) b []) (sym e) done; long = refl }
+
+-- ---- one call
+
+step-led : (b c : List ℕ) (kind x y z r : ℕ) → StepPromise b kind x y z r c
+    → Led b (unlessRefused r (asked kind x y z)) (cond (eqb r 0) 1 0) c
+unfolding stepOf
+step-led b c kind x y z r p = go (eqb r 0) refl
+  where
+    number : r ≡ refusalOf paper b kind x y z
+    number = ap (λ a. a .refusal) p
+
+    bank : c ≡ stepOf paper b kind x y z .bank
+    bank = ap (λ a. a .bank) p
+
+    go : (t : Bool) → eqb r 0 ≡ t → Led b (cond t (asksFor (asked kind x y z)) []) (cond t 1 0) c
+    go true e =
+        let (led, one) = stepped paper b kind x y z (sym number ∙ eqb-true r 0 e) in
+        record { run = subst (Run (Allowed paper) (after paper) b (asksFor (asked kind x y z))) (sym bank) led; long = one }
+    go false e = unmoved (bank ∙ refused-leaves paper b kind x y z (λ z. eqb-false r 0 e (number ∙ z)))
+
+list-led : (b c steps : List ℕ) (a r : ℕ) → outcome a r c ≡ runOf paper b steps → Led b (asksFirst a steps) a c
+list-led b c steps a r p =
+    let h = run-leads paper b steps in
+    let many : a ≡ h .more = ap (λ o. o .accepted) p ∙ h .counted ∙ zero-add _ in
+    record {
+      run =
+          subst (λ a. Run (Allowed paper) (after paper) b (asksFirst a steps) c) (sym many)
+          (subst (Run (Allowed paper) (after paper) b (asksFirst (h .more) steps)) (sym (ap (λ o. o .bank) p)) (h .run));
+      long = subst (λ a. length (asksFirst a steps) ≡ a) (sym many) (h .long);
+    }
+
+module _ {n k : ℕ} {before : List Step} {b : List ℕ} (h : Reached paper n k before b) where
+  pub settle-tells : (d r t : ℕ) (q : Bool) (c : List ℕ) → SettlePromise b d r t q c → Tells paper b d (ending r t q c)
+  settle-tells d r t q c p = subst (Tells paper b d) (sym p) (settler-tells paper h d)
+
+  call-led : (x : Call) (c : List ℕ) → Promised b x c → Led b (taken b x) (counted x) c
+  call-led (openRefused m j r z) c p =
+      unmoved
+      (ap (λ a. a .bank) p ∙ open-refused-leaves paper b m j (λ e. z (ap (λ a. a .refusal) p ∙ e)))
+  call-led (step kind x y z r) c p = step-led b c kind x y z r p
+  call-led (run steps a r) c p = list-led b c steps a r p
+  call-led (runSteps steps a r) c p = list-led b c (flat steps) a r p
+  call-led (settle d r t q) c p =
+      let e = settle-tells d r t q c p in record { run = plain-run (e .taken); long = e .counted }
+
+-- ---- any calls
+
+pub open-reached : (b c : List ℕ) (n k : ℕ) → OpenPromise b n k 0 c → Reached paper n k [] c
+open-reached b c n k o =
+    let (sized, known, bank) = opening-done paper b n k (sym (ap (λ a. a .refusal) o)) in
+    record {
+      sized = sized;
+      known = known;
+      run = subst (λ x. Run (Allowed paper) (after paper) x [] c) (ap (λ a. a .bank) o ∙ bank) done;
+    }
+
+called-reached : {n k : ℕ} {before : List Step} {b : List ℕ} → Called n k before b → Reached paper n k before b
+called-reached {n} {k} (opened {b = c} (b, o)) = open-reached b c n k o
+called-reached {n} {k} (called {c = c} x d p) =
+    let r = called-reached d in reached-by paper n k r (call-led r x c p .run)
+
+pub every-caller : EveryCaller
+every-caller n k before b h =
+    let r = called-reached h in
+    record {
+      relies = record { reached = r; demand = demand-3 paper n k before b r };
+      counts = λ x c p. call-led r x c p .long;
+      settling = settle-tells r;
+    }

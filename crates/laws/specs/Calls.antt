@@ -1,0 +1,99 @@
+-- What a program may call once a group is open, which steps its answers tell of, and what it may then rely on.
+use Prim.Native.Nat.{ℕ, zero, suc}
+use mathlib.Core.Path.{_≡_}
+use mathlib.Core.Bool.{Bool, cond}
+use mathlib.Core.List.{List, [], _∷_, _++_}
+use mathlib.Core.Option.{Option, none, some}
+use lib.Dec.{eqb}
+use lib.ListN.{length}
+use Rattle.group.specs.Layout.{paper}
+use Rattle.group.specs.Step.{Step, asked}
+use Rattle.group.specs.Promises.{OpenPromise, StepPromise}
+use Rattle.group.specs.Lists.{RunPromise}
+use Rattle.settler.specs.Settling.{ending, SettlePromise}
+use Rattle.step_records.specs.declared.Step.{Step as StepRecord}
+use Rattle.step_records.specs.Records.{flat, StepsPromise}
+use Rattle.laws.specs.Demand.{Reached}
+use Rattle.laws.specs.Settler.{chosen, Tells}
+use Rattle.laws.specs.Demand3.{Demand3}
+
+-- ---- which steps an answer tells of
+
+abbrev pub asksFor : Option Step → List Step
+asksFor none = []
+asksFor (some s) = s ∷ []
+
+-- a single step that was asked for, unless it was refused by r
+abbrev pub unlessRefused : ℕ → Option Step → List Step
+unlessRefused r o = cond (eqb r 0) (asksFor o) []
+
+-- the first a steps that a list of words asks for, four words a step
+abbrev pub asksFirst : ℕ → List ℕ → List Step
+asksFirst zero steps = []
+asksFirst (suc a) (kind ∷ x ∷ y ∷ z ∷ rest) = asksFor (asked kind x y z) ++ asksFirst a rest
+asksFirst (suc a) [] = []
+asksFirst (suc a) (kind ∷ []) = []
+asksFirst (suc a) (kind ∷ x ∷ []) = []
+asksFirst (suc a) (kind ∷ x ∷ y ∷ []) = []
+
+-- ---- the calls that may change a bank, each with its numbers and what it answered
+
+-- an open that is not refused begins another group
+pub data Call : Type 0 where
+  openRefused : (n mode refusal : ℕ) → (refusal ≡ 0 → ⊥) → Call
+  step : (kind a b c refusal : ℕ) → Call
+  run : (steps : List ℕ) (accepted refusal : ℕ) → Call
+  runSteps : (steps : List StepRecord) (accepted refusal : ℕ) → Call
+  settle : (budget refusal steps : ℕ) (quiet : Bool) → Call
+
+-- what the call promises of the bank before it and the bank after it
+abbrev pub Promised : List ℕ → Call → List ℕ → Type 0
+Promised b (openRefused n k r z) c = OpenPromise b n k r c
+Promised b (step kind x y z r) c = StepPromise b kind x y z r c
+Promised b (run steps a r) c = RunPromise b steps a r c
+Promised b (runSteps steps a r) c = StepsPromise b steps a r c
+Promised b (settle d r t q) c = SettlePromise b d r t q c
+
+-- the steps that it took, and how many its answer counts; a settling's are the settler's own first so many
+abbrev pub taken : List ℕ → Call → List Step
+taken b (openRefused n k r z) = []
+taken b (step kind x y z r) = unlessRefused r (asked kind x y z)
+taken b (run steps a r) = asksFirst a steps
+taken b (runSteps steps a r) = asksFirst a (flat steps)
+taken b (settle d r t q) = chosen paper t b
+
+abbrev pub counted : Call → ℕ
+counted (openRefused n k r z) = 0
+counted (step kind x y z r) = cond (eqb r 0) 1 0
+counted (run steps a r) = a
+counted (runSteps steps a r) = a
+counted (settle d r t q) = t
+
+-- ---- any calls, one after another
+
+-- an open that answered 0, then calls as they come: the steps taken so far, and what the lent memory holds now
+pub data Calls {C : Type 0} (Opened : List ℕ → Type 0) (Promised : List ℕ → C → List ℕ → Type 0)
+    (taken : List ℕ → C → List Step) : List Step → List ℕ → Type 0 where
+  opened : {b : List ℕ} → Opened b → Calls Opened Promised taken [] b
+  called : {before : List Step} {b c : List ℕ} (x : C) → Calls Opened Promised taken before b → Promised b x c
+      → Calls Opened Promised taken (before ++ taken b x) c
+
+abbrev pub Called : ℕ → ℕ → List Step → List ℕ → Type 0
+Called n k = Calls (λ c. (b : List ℕ) × OpenPromise b n k 0 c) Promised taken
+
+-- ---- what whoever calls may rely on
+
+-- the steps that the answers tell of were accepted, in that order, and led to this bank: demand 3 is had of it
+pub record Relies (n k : ℕ) (before : List Step) (b : List ℕ) : Type 0 where
+  pub reached : Reached paper n k before b
+  pub demand : Demand3 paper n k before b
+
+-- whatever was called and answered: each call took as many steps as its answer counts, and a settling's answer tells
+-- what is left and how every order ends
+pub record CallersRely (n k : ℕ) (before : List Step) (b : List ℕ) : Type 0 where
+  pub relies : Relies n k before b
+  pub counts : (x : Call) (c : List ℕ) → Promised b x c → length (taken b x) ≡ counted x
+  pub settling : (d r t : ℕ) (q : Bool) (c : List ℕ) → SettlePromise b d r t q c → Tells paper b d (ending r t q c)
+
+abbrev pub EveryCaller : Type 0
+EveryCaller = (n k : ℕ) (before : List Step) (b : List ℕ) → Called n k before b → CallersRely n k before b
