@@ -8,3 +8,4 @@ pub mod Demand3
 pub mod Calls
 pub mod CallsFromC
 pub mod Table
+pub mod Witness

@@ -32,10 +32,10 @@ pub record Case : Type 0 where
   pub budget : ℕ
   pub expected : Seen
 
-abbrev case : ℕ → ℕ → List ℕ → ℕ → Seen → Case
+abbrev pub case : ℕ → ℕ → List ℕ → ℕ → Seen → Case
 case n k list budget expected = record { N = n; mode = k; list = list; budget = budget; expected = expected }
 
-abbrev seen : ℕ → ℕ → ℕ → Bool → ℕ → ℕ → ℕ → List (List ℕ) → List ℕ → Seen
+abbrev pub seen : ℕ → ℕ → ℕ → Bool → ℕ → ℕ → ℕ → List (List ℕ) → List ℕ → Seen
 seen a r k q h d acks logs days =
     record {
       accepted = a;
@@ -50,10 +50,10 @@ seen a r k q h d acks logs days =
     }
 
 -- a controller's log that is empty, and one that holds message 0
-abbrev none : List ℕ
+abbrev pub none : List ℕ
 none = []
 
-abbrev one : List ℕ
+abbrev pub one : List ℕ
 one = 0 ∷ []
 
 -- 0 broadcasts at stamp 96, sends two copies and is gone
