@@ -16,7 +16,7 @@ use Rattle.laws.specs.Runs.{Run, Ended, Settling}
 use Rattle.laws.specs.Logs.{occurs}
 use Rattle.laws.specs.Demand.{Reached, Finished, Quorum}
 use Rattle.laws.proofs.Onward.{go-on, plain-run}
-use Rattle.laws.proofs.Sets.{Sets, Ok, Quorate}
+use Rattle.laws.proofs.Sets.{Ok, Quorate}
 use Rattle.laws.proofs.Visible.{visible, seen-in}
 use Rattle.laws.proofs.Bridge.{recordSets, sets}
 use Rattle.laws.proofs.Steps.{setsOf}

@@ -1,10 +1,9 @@
 -- What a bank allows its sets allow, and what they allow of settling the bank allows where a log has room.
 use mathlib.Core.Path.{_≡_, sym, ap, ap₂, _∙_}
-use mathlib.Core.Bool.{true, false, not, false≢true}
+use mathlib.Core.Bool.{true, not}
 use mathlib.Core.List.{List, [], _∷_, _++_}
 use Prim.Native.Nat.{ℕ, _<_}
 use native.Mathlib.Omega.{arith}
-use lib.Dec.{eqb, ltb}
 use borrow.Author.Tests.{lt-ltb, ltb-true, eq-eqb, eqb-true, not-true}
 use Rattle.sets.specs.Set.{has, within, countBelow}
 use Rattle.group.specs.Place.{Field, Place, N, mode, count, up, view, logLength, message}
@@ -15,8 +14,8 @@ use Rattle.group.specs.Step.{Step, broadcast, send, receive, deliver, crash, de
 use Rattle.group.specs.Refusals.{_else_, Holds, copy, isUp, enough}
 use Rattle.group.specs.Promises.{Allowed}
 use Rattle.group.proofs.Bounds.{controller-below, message-below, copy-below}
-use Rattle.laws.specs.Runs.{settles}
-use Rattle.laws.proofs.Sets.{Sets, enoughOf, Named, Ok}
+use Rattle.laws.proofs.Onward.{SettlingKind, sends, receives, delivers, detects}
+use Rattle.laws.proofs.Sets.{enoughOf, Named, Ok}
 use Rattle.laws.proofs.Visible.{visible, seen-in}
 use Rattle.laws.proofs.Bridge.{recordSets, sets}
 use Rattle.laws.proofs.Steps.{setsOf}
@@ -117,14 +116,13 @@ module _ (L : Layout) (b : List ℕ) where
   Roomy (detect i j) = Unit {0}
   Roomy (lose from to m) = Unit {0}
 
-  pub ok-allowed : Fit L b → (s : Step) → settles s ≡ true → Roomy s → Ok (L .messages) (setsOf L b) s → Allowed L b s
+  pub ok-allowed : Fit L b → {s : Step} → SettlingKind s → Roomy s → Ok (L .messages) (setsOf L b) s → Allowed L b s
   unfolding setsOf sets recordSets visible
-  ok-allowed f (broadcast who s v) e r o = absurd (false≢true e)
-  ok-allowed f (send from to m) e r o =
+  ok-allowed f (sends {from} {to} {m}) r o =
       record { sound = f; free = seen-asked f from to m (unsent from) (λ x y. x) o }
-  ok-allowed f (receive i from m) e r o =
+  ok-allowed f (receives {i} {from} {m}) r o =
       record { sound = f; free = seen-asked f i from m (inFlight i) (λ x y. x) o }
-  ok-allowed f (deliver i m) e r (n, u, h) =
+  ok-allowed f (delivers {i} {m}) r (n, u, h) =
       let j = controller-below L b f i (lt-ltb _ _ (n .0)) in
       let k = message-below L b f m (lt-ltb _ _ (n .1)) in
       let one : 0 < 1 = omega arith in
@@ -147,8 +145,7 @@ module _ (L : Layout) (b : List ℕ) where
           ),
         );
       }
-  ok-allowed f (crash who) e r o = absurd (false≢true e)
-  ok-allowed f (detect i j) e r (n, u, h) =
+  ok-allowed f (detects {i} {j}) r (n, u, h) =
       let d = controller-below L b f i (lt-ltb _ _ (n .0)) in
       record {
         sound = f;
@@ -163,4 +160,3 @@ module _ (L : Layout) (b : List ℕ) where
           ),
         );
       }
-  ok-allowed f (lose from to m) e r o = absurd (false≢true e)

@@ -12,7 +12,6 @@ use Rattle.group.specs.Place.{sender, held, delivered, acked, unsent, inFlight}
 use Rattle.group.specs.Place.{N, mode, count, up, view, message}
 use Rattle.group.specs.Writes.{fresh, sent, received}
 use Rattle.group.proofs.Places.{sameField}
-use Rattle.group.proofs.Reading.{later}
 use Rattle.laws.proofs.Sets.{RecordSets, Sets, put, newRecord}
 use Rattle.laws.proofs.Sets.{afterSend, afterReceive, afterDeliver, afterLose}
 

@@ -1,5 +1,5 @@
 -- The paper's bound grows with the group and its messages, so that a full bank's is the most that any has.
-use Prim.Native.Nat.{ℕ, _+_, _-_, _*_, _≤_}
+use Prim.Native.Nat.{ℕ, _-_, _*_, _≤_}
 use native.Mathlib.Nat.{mul-le-mul}
 use native.Mathlib.Omega.{arith}
 use Rattle.laws.specs.Runs.{most}

@@ -1,25 +1,24 @@
 -- Whatever is called once a group is open, and whatever is answered: the steps that the answers tell of lead to the bank.
 use mathlib.Core.Path.{_≡_, refl, sym, ap, subst, _∙_}
 use mathlib.Core.Bool.{Bool, true, false, cond}
-use mathlib.Core.List.{List, [], _∷_}
+use mathlib.Core.List.{List, []}
 use Prim.Native.Nat.{ℕ}
 use native.Mathlib.Nat.{zero-add}
 use lib.Dec.{eqb}
 use lib.ListN.{length}
 use borrow.Author.Tests.{eqb-true, eqb-false}
 use Rattle.group.specs.Layout.{paper}
-use Rattle.group.specs.Opening
 use Rattle.group.specs.Step.{Step, asked}
 use Rattle.group.specs.Promises.{Allowed, after, stepOf, refusalOf, StepPromise, OpenPromise}
 use Rattle.group.specs.Lists.{outcome, runOf}
 use Rattle.group.proofs.Kept.{refused-leaves, open-refused-leaves}
-use Rattle.settler.specs.Settling.{ending, settleOf, SettlePromise}
+use Rattle.settler.specs.Settling.{ending, SettlePromise}
 use Rattle.step_records.specs.Records.{flat}
 use Rattle.laws.specs.Runs.{Run, done}
 use Rattle.laws.specs.Demand.{Reached}
-use Rattle.laws.specs.Settler.{chosen, Tells}
+use Rattle.laws.specs.Settler.{Tells}
 use Rattle.laws.specs.Calls.{asksFor, asksFirst, unlessRefused, Call, openRefused, step, run, runSteps, settle, Promised}
-use Rattle.laws.specs.Calls.{taken, counted, Calls, opened, called, Called, CallersRely, EveryCaller}
+use Rattle.laws.specs.Calls.{taken, counted, opened, called, Called, EveryCaller}
 use Rattle.laws.proofs.Ends.{reached-by}
 use Rattle.laws.proofs.Onward.{plain-run}
 use Rattle.laws.proofs.Telling.{settler-tells}

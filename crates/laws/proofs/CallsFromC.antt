@@ -1,6 +1,6 @@
 -- The same for a C program: on a bank's bytes each call of the C face is the call below it, on the words.
 use mathlib.Core.Path.{_≡_, refl, sym, ap, subst, _∙_}
-use mathlib.Core.Bool.{Bool, true, false, cond}
+use mathlib.Core.Bool.{Bool, true, false}
 use mathlib.Core.List.{List, _++_}
 use Prim.Native.Nat.{ℕ, _*_}
 use native.Mathlib.Omega.{arith}
@@ -8,22 +8,21 @@ use lib.Dec.{eqb}
 use lib.ListN.{length}
 use borrow.Author.Tests.{eq-eqb, ne-eqb, eqb-true, eqb-false}
 use Rattle.group.specs.Layout.{paper, size}
-use Rattle.group.specs.Opening.{Answer, answer, openOf}
+use Rattle.group.specs.Opening.{answer}
 use Rattle.group.specs.Step.{Step}
-use Rattle.group.specs.Promises.{stepOf}
 use Rattle.group.proofs.Rules.{pass}
 use Rattle.group.proofs.Kept.{refused-leaves, open-refused-leaves}
-use Rattle.settler.specs.Settling.{Ending, ending, settleOf}
+use Rattle.settler.specs.Settling.{ending, settleOf}
 use Rattle.loargwen.specs.Bytes.{wordsOf, bytesOf}
-use Rattle.loargwen.specs.Face.{isBank, bytesAfter, flag, settledBytes, OpenBytes, StepBytes, SettleBytes}
+use Rattle.loargwen.specs.Face.{isBank, flag, settledBytes, SettleBytes}
 use Rattle.loargwen.proofs.Crossing.{length-bytes}
 use Rattle.loargwen.proofs.Kept.{Left, answered, stored, handed-on, unchanged, open-left, step-left, settle-left}
 use Rattle.laws.specs.Demand.{Reached}
 use Rattle.laws.specs.Settler.{Tells}
-use Rattle.laws.specs.Calls.{Calls, opened, called, Called}
+use Rattle.laws.specs.Calls.{opened, called, Called}
 use Rattle.laws.specs.Calls as Words
 use Rattle.laws.specs.CallsFromC.{CCall, openRefused, step, settle, PromisedToC, takenByC, CalledFromC}
-use Rattle.laws.specs.CallsFromC.{CCallersRely, EveryCCaller}
+use Rattle.laws.specs.CallsFromC.{EveryCCaller}
 use Rattle.laws.proofs.Ends.{reached-fit}
 use Rattle.laws.proofs.Telling.{settler-tells}
 use Rattle.laws.proofs.Calls.{every-caller}

@@ -16,7 +16,7 @@ use Rattle.settler.specs.Candidates.{below, each, pairs, ofMessage, candidates}
 use Rattle.laws.specs.Runs.{settles}
 use Rattle.laws.specs.Settler.{turn, InTurn}
 use Rattle.laws.proofs.Sets.{Sets, Ok}
-use Rattle.laws.proofs.Swap.{SettlingKind, sends, receives, delivers, detects}
+use Rattle.laws.proofs.Onward.{SettlingKind, sends, receives, delivers, detects}
 
 -- ---- a fact of every step of a list
 

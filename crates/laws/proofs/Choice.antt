@@ -22,7 +22,7 @@ use Rattle.laws.specs.Settler.{turn, InTurn}
 use Rattle.laws.proofs.Visible.{visible}
 use Rattle.laws.proofs.Bridge.{sets}
 use Rattle.laws.proofs.Cells.{clash}
-use Rattle.laws.proofs.Swap.{kind-of}
+use Rattle.laws.proofs.Onward.{kind-of}
 use Rattle.laws.proofs.Steps.{setsOf}
 use Rattle.laws.proofs.Allowing.{allowed-ok}
 use Rattle.laws.proofs.Candidates.{candidates-settle, candidates-in-turn, from-turn, candidate}

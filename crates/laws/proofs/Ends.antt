@@ -3,7 +3,7 @@
 use mathlib.Core.Path.{_≡_, refl, sym, ap, _∙_}
 use mathlib.Core.Bool.{Bool, true, false, cond}
 use mathlib.Core.List.{List, _++_}
-use Prim.Native.Nat.{ℕ, zero, suc, _+_, _≤_, _<_}
+use Prim.Native.Nat.{ℕ, zero, suc, _≤_, _<_}
 use native.Mathlib.Nat.{lt-irrefl}
 use native.Mathlib.Omega.{arith}
 use lib.Dec.{ltb}
@@ -19,11 +19,11 @@ use Rattle.group.specs.Step.{Step, broadcast, send, receive, deliver, crash, de
 use Rattle.group.specs.Refusals.{hasDelivered}
 use Rattle.group.specs.Logs.{logOf}
 use Rattle.group.specs.Promises.{Allowed, after}
-use Rattle.laws.specs.Runs.{Run, done, next, Ended, Settling}
+use Rattle.laws.specs.Runs.{Run, Ended, Settling}
 use Rattle.laws.specs.Logs.{occurs, LogsRight}
 use Rattle.laws.specs.Demand.{Reached, Finished, Alike}
-use Rattle.laws.proofs.Onward.{go-on, plain-run}
-use Rattle.laws.proofs.Sets.{Sets, Ok}
+use Rattle.laws.proofs.Onward.{go-on, plain-run, kind-of}
+use Rattle.laws.proofs.Sets.{Ok}
 use Rattle.laws.proofs.Visible.{visible, seen-in}
 use Rattle.laws.proofs.Bridge.{recordSets, sets}
 use Rattle.laws.proofs.Steps.{setsOf}
@@ -77,7 +77,7 @@ module _ (L : Layout) (n k : ℕ) where
 
   pub quiet-sets : {before : List Step} {x : List ℕ} → Reached L n k before x → Ended (Settling (Allowed L)) x
       → Ended (Settling (Ok (L .messages))) (setsOf L x)
-  quiet-sets {x = x} r z e (s, o) = z e (s, ok-allowed L x (reached-fit r) e s (roomy r e o) o)
+  quiet-sets {x = x} r z e (s, o) = z e (s, ok-allowed L x (reached-fit r) (kind-of e s) (roomy r e o) o)
 
   -- ---- equal sets, equal words
 

@@ -1,9 +1,8 @@
 -- What an answer tells of the steps taken: a step that is not refused was allowed; a list's accepted steps are a run.
 use mathlib.Core.Path.{_≡_, refl, sym, ap, subst, _∙_}
 use mathlib.Core.Bool.{Bool, true, false, cond}
-use mathlib.Core.List.{List, [], _∷_, _++_}
-use mathlib.Core.Option.{some}
-use Prim.Native.Nat.{ℕ, zero, suc, _+_, _%_}
+use mathlib.Core.List.{List, [], _∷_}
+use Prim.Native.Nat.{ℕ, suc, _+_, _%_}
 use native.Mathlib.Omega.{arith}
 use lib.Dec.{eqb}
 use lib.ListN.{length, length-append}
@@ -11,7 +10,7 @@ use borrow.Author.Tests.{eq-eqb, eqb-true}
 use Rattle.group.specs.Layout.{Layout, size}
 use Rattle.group.specs.Fit.{fit, isSize, isMode}
 use Rattle.group.specs.Opening.{opened, openOf}
-use Rattle.group.specs.Step.{Step, asked}
+use Rattle.group.specs.Step.{asked}
 use Rattle.group.specs.Refusals.{_else_}
 use Rattle.group.specs.Promises.{Allowed, after, refusalOf, stepOf}
 use Rattle.group.specs.Lists.{Outcome, outcome, runFrom, runOf}

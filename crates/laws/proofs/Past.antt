@@ -1,7 +1,7 @@
 -- What settling leaves alone: the header, stamps and values; and what any step leaves of a log: its entries, the words
 -- past its end, and the logs of controllers that are not there.
 use mathlib.Core.Path.{_≡_, refl, ap, _∙_}
-use mathlib.Core.Bool.{Bool, true, false, cond, not, _&&_, _||_, false≢true}
+use mathlib.Core.Bool.{Bool, true, false, cond, not, _&&_, _||_}
 use mathlib.Core.List.{List}
 use Prim.Native.Nat.{ℕ, _+_, _≤_, _<_}
 use native.Mathlib.Nat.{lt-irrefl}
@@ -16,7 +16,8 @@ use Rattle.group.specs.Promises.{Allowed, after}
 use Rattle.group.proofs.Places.{key}
 use Rattle.group.proofs.Reading.{later}
 use Rattle.group.proofs.Names.{word-after}
-use Rattle.laws.specs.Runs.{Run, done, next, Settling, settles}
+use Rattle.laws.specs.Runs.{Run, done, next, Settling}
+use Rattle.laws.proofs.Onward.{SettlingKind, sends, receives, delivers, detects, kind-of}
 use Rattle.laws.proofs.Untouched.{keeps, untouched}
 
 -- a word that is written only where two numbers are equal
@@ -37,15 +38,12 @@ unless-both a b c d v x h = go (eqb a b) refl (eqb c d) refl
     go false e t f = refl
 
 -- the sender, stamp and value of a record, by their run
-said-stays : (w : Words) (s : Step) (r m : ℕ) → settles s ≡ true → ltb r 3 ≡ true → eqb r 4 ≡ false
+said-stays : (w : Words) {s : Step} → SettlingKind s → (r m : ℕ) → ltb r 3 ≡ true → eqb r 4 ≡ false
     → keeps w s (record { region = 7; run = r; index = 0; row = m }) ≡ true
-said-stays w (broadcast who s v) r m e l z = absurd (false≢true e)
-said-stays w (send from to k) r m e l z = ap (λ t. t || eqb r 4) l
-said-stays w (receive i from k) r m e l z = ap (λ t. t || eqb r 4) l
-said-stays w (deliver i k) r m e l z = ap not z
-said-stays w (crash who) r m e l z = absurd (false≢true e)
-said-stays w (detect i j) r m e l z = ap (λ t. t || eqb r 4) l
-said-stays w (lose from to k) r m e l z = absurd (false≢true e)
+said-stays w sends r m l z = ap (λ t. t || eqb r 4) l
+said-stays w receives r m l z = ap (λ t. t || eqb r 4) l
+said-stays w delivers r m l z = ap not z
+said-stays w detects r m l z = ap (λ t. t || eqb r 4) l
 
 module _ (L : Layout) where
   -- a place that every step of a run leaves alone holds what it held
@@ -56,9 +54,9 @@ module _ (L : Layout) where
   kept allows into p l h {b} (next {e = e} a r) =
       kept allows into p l h r ∙ untouched L b e (into b e a) p l (h b e a)
 
-  settling-kept : (p : Place) → PlaceIn L p → ((w : Words) (s : Step) → settles s ≡ true → keeps w s (key p) ≡ true)
+  settling-kept : (p : Place) → PlaceIn L p → ((w : Words) (s : Step) → SettlingKind s → keeps w s (key p) ≡ true)
       → {b x : List ℕ} {es : List Step} → Run (Settling (Allowed L)) (after L) b es x → words L x p ≡ words L b p
-  settling-kept p l h = kept (Settling (Allowed L)) (λ b e a. a .1) p l (λ b e a. h (words L b) e (a .0))
+  settling-kept p l h = kept (Settling (Allowed L)) (λ b e a. a .1) p l (λ b e a. h (words L b) e (kind-of e (a .0)))
 
   -- N and the mode, which no step writes
   module _ {b x : List ℕ} {es : List Step} (r : Run (Allowed L) (after L) b es x) where
@@ -70,38 +68,32 @@ module _ (L : Layout) where
 
   pub stamp-kept : (m : ℕ) → m < L .messages → {b x : List ℕ} {es : List Step}
       → Run (Settling (Allowed L)) (after L) b es x → words L x (message m stamp) ≡ words L b (message m stamp)
-  stamp-kept m l r = settling-kept (message m stamp) (l, omega arith) (λ w s e. said-stays w s 1 m e refl refl) r
+  stamp-kept m l r = settling-kept (message m stamp) (l, omega arith) (λ w s k. said-stays w k 1 m refl refl) r
 
   pub value-kept : (m : ℕ) → m < L .messages → {b x : List ℕ} {es : List Step}
       → Run (Settling (Allowed L)) (after L) b es x → words L x (message m value) ≡ words L b (message m value)
-  value-kept m l r = settling-kept (message m value) (l, omega arith) (λ w s e. said-stays w s 2 m e refl refl) r
+  value-kept m l r = settling-kept (message m value) (l, omega arith) (λ w s k. said-stays w k 2 m refl refl) r
 
-  count-stays : (w : Words) (s : Step) → settles s ≡ true → keeps w s (key count) ≡ true
-  count-stays w (broadcast who s v) e = absurd (false≢true e)
-  count-stays w (send from to m) e = refl
-  count-stays w (receive i from m) e = refl
-  count-stays w (deliver i m) e = refl
-  count-stays w (crash who) e = absurd (false≢true e)
-  count-stays w (detect i j) e = refl
-  count-stays w (lose from to m) e = absurd (false≢true e)
+  count-stays : (w : Words) {s : Step} → SettlingKind s → keeps w s (key count) ≡ true
+  count-stays w sends = refl
+  count-stays w receives = refl
+  count-stays w delivers = refl
+  count-stays w detects = refl
 
-  up-stays : (w : Words) (s : Step) → settles s ≡ true → later (writes L w s) up (w up) ≡ w up
-  up-stays w (broadcast who s v) e = absurd (false≢true e)
-  up-stays w (send from to m) e = refl
-  up-stays w (receive i from m) e = refl
-  up-stays w (deliver i m) e = refl
-  up-stays w (crash who) e = absurd (false≢true e)
-  up-stays w (detect i j) e = refl
-  up-stays w (lose from to m) e = absurd (false≢true e)
+  up-stays : (w : Words) {s : Step} → SettlingKind s → later (writes L w s) up (w up) ≡ w up
+  up-stays w sends = refl
+  up-stays w receives = refl
+  up-stays w delivers = refl
+  up-stays w detects = refl
 
   pub count-kept : {b x : List ℕ} {es : List Step} → Run (Settling (Allowed L)) (after L) b es x
       → words L x count ≡ words L b count
-  count-kept r = settling-kept count tt count-stays r
+  count-kept r = settling-kept count tt (λ w s k. count-stays w k) r
 
   pub up-kept : {b x : List ℕ} {es : List Step} → Run (Settling (Allowed L)) (after L) b es x
       → words L x up ≡ words L b up
   up-kept done = refl
-  up-kept {b} (next {e = e} (s, a) r) = up-kept r ∙ word-after L b e a up tt ∙ up-stays (words L b) e s
+  up-kept {b} (next {e = e} (s, a) r) = up-kept r ∙ word-after L b e a up tt ∙ up-stays (words L b) (kind-of e s)
 
   -- ---- lengths and logs, which only a deliver touches
 

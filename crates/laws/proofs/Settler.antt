@@ -21,13 +21,12 @@ use Rattle.settler.specs.Settling.{Ending, ending, onNext, settleFrom, settleOf
 use Rattle.laws.specs.Runs.{Run, done, next, Ended, Settling, settlings, most}
 use Rattle.laws.specs.Demand.{Reached, Finished}
 use Rattle.laws.specs.Settler.{chosen}
-use Rattle.laws.proofs.Onward.{plain-run}
 use Rattle.laws.proofs.Sets.{Ok, act}
 use Rattle.laws.proofs.Visible.{visible}
 use Rattle.laws.proofs.Bridge.{sets}
 use Rattle.laws.proofs.Cells.{is-true}
 use Rattle.laws.proofs.Keep.{Inv, run-inv}
-use Rattle.laws.proofs.Swap.{kind-of}
+use Rattle.laws.proofs.Onward.{plain-run, kind-of}
 use Rattle.laws.proofs.Work.{work, settling-work, settled-work, within-most}
 use Rattle.laws.proofs.Steps.{setsOf}
 use Rattle.laws.proofs.Allowing.{allowed-ok}

@@ -1,6 +1,6 @@
 -- What a group keeps from one moment to every later one, whatever is accepted between: who is down, what was delivered,
 -- and how each log begins.
-use mathlib.Core.Path.{_≡_, refl, sym, ap, ap₂, subst, _∙_}
+use mathlib.Core.Path.{_≡_, sym, ap, ap₂, subst, _∙_}
 use mathlib.Core.Bool.{Bool, true, false, cond}
 use mathlib.Core.List.{List, _∷_, _++_, map}
 use Prim.Native.Nat.{ℕ, zero, suc, _+_, _-_, _≤_, _<_}
@@ -19,7 +19,7 @@ use Rattle.group.specs.Promises.{Allowed, after}
 use Rattle.laws.specs.Runs.{Run, done, next}
 use Rattle.laws.proofs.Sets.{Sets, RecordSets, Ok, act, newRecord, afterSend, afterReceive, afterDeliver, afterLose}
 use Rattle.laws.proofs.Cells.{clash, is-false, joined, was-in}
-use Rattle.laws.proofs.Visible.{visible, seen-in}
+use Rattle.laws.proofs.Visible.{seen-in}
 use Rattle.laws.proofs.Bridge.{sets, recordSets}
 use Rattle.laws.proofs.Steps.{setsOf}
 use Rattle.laws.proofs.Lifting.{lift-run}

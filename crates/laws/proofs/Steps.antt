@@ -6,11 +6,11 @@ use Prim.Native.Nat.{ℕ, _+_, _<_}
 use lib.Dec.{eqb}
 use borrow.Author.Tests.{eqb-true}
 use Rattle.sets.specs.Set.{has, with, without}
-use Rattle.group.specs.Place.{Field, Words, Record, Write, _≔_}
+use Rattle.group.specs.Place.{Field, Words, Write, _≔_}
 use Rattle.group.specs.Place.{delivered, inFlight, N, mode, count, up, view, message}
 use Rattle.group.specs.Layout.{Layout, words, inRecord, FieldIn}
 use Rattle.group.specs.Step.{Step, broadcast, send, receive, deliver, crash, detect, lose}
-use Rattle.group.specs.Writes.{fresh, freshRecord, sent, received, writes}
+use Rattle.group.specs.Writes.{freshRecord, sent, received, writes}
 use Rattle.group.specs.Promises.{Allowed, after}
 use Rattle.group.proofs.Reading.{later, later-append}
 use Rattle.group.proofs.Bounds.{controller-below}

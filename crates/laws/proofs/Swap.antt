@@ -1,16 +1,17 @@
 -- Two different settling steps may be taken in either order: so all ways to settle end with the same sets.
 use mathlib.Core.Path.{_≡_, refl, sym, subst, _∙_}
-use mathlib.Core.Bool.{Bool, true, false, cond, false≢true}
+use mathlib.Core.Bool.{Bool, true, false, cond}
 use mathlib.Core.List.{List}
 use Prim.Native.Nat.{ℕ}
 use native.Mathlib.Decide.{ℕ-discrete}
 use lib.Dec.{eqb}
 use lib.ListN.{length}
 use borrow.Author.Tests.{eqb-true}
-use Rattle.group.specs.Step.{Step, broadcast, send, receive, deliver, crash, detect, lose, step-discrete}
-use Rattle.laws.specs.Runs.{Run, Ended, Settling, settles}
+use Rattle.group.specs.Step.{Step, send, receive, deliver, detect, step-discrete}
+use Rattle.laws.specs.Runs.{Run, Ended, Settling}
 use Rattle.laws.proofs.Sets.{RecordSets, Sets, enoughOf, cell, putAt, setsWith, inMessage, act, Ready, Ok}
 use Rattle.laws.proofs.Sets.{afterSend, afterReceive, afterDeliver}
+use Rattle.laws.proofs.Onward.{SettlingKind, sends, receives, delivers, detects, kind-of}
 use Rattle.laws.proofs.OneEnd.{Square, Diamond, same-end}
 use Rattle.laws.proofs.Enough.{enough-grows}
 use Rattle.laws.proofs.Cells.{was-in, on-one}
@@ -58,21 +59,6 @@ in-messages s m k f g P Q x y h = (
     go c false false b d = refl
 
 -- ---- the steps that settle
-
-pub data SettlingKind : Step → Type 0 where
-  sends : {from to m : ℕ} → SettlingKind (send from to m)
-  receives : {i from m : ℕ} → SettlingKind (receive i from m)
-  delivers : {i m : ℕ} → SettlingKind (deliver i m)
-  detects : {i j : ℕ} → SettlingKind (detect i j)
-
-pub kind-of : (e : Step) → settles e ≡ true → SettlingKind e
-kind-of (broadcast who stamp value) h = absurd (false≢true h)
-kind-of (send from to m) h = sends
-kind-of (receive i from m) h = receives
-kind-of (deliver i m) h = delivers
-kind-of (crash who) h = absurd (false≢true h)
-kind-of (detect i j) h = detects
-kind-of (lose from to m) h = absurd (false≢true h)
 
 module _ (room : ℕ) (s : Sets) (h : Inv s) where
   abbrev Commute : Step → Step → Type 0

@@ -20,7 +20,7 @@ use Rattle.settler.specs.Settling.{onNext}
 use Rattle.laws.specs.Runs.{Settling}
 use Rattle.laws.specs.Settler.{chosen, turn, InTurn}
 use Rattle.laws.proofs.Sets.{RecordSets, Sets, inMessage, act, Ok, afterSend, afterReceive, afterDeliver}
-use Rattle.laws.proofs.Swap.{SettlingKind, sends, receives, delivers, detects, kind-of}
+use Rattle.laws.proofs.Onward.{SettlingKind, sends, receives, delivers, detects, kind-of}
 use Rattle.laws.proofs.Steps.{setsOf, sets-after}
 use Rattle.laws.proofs.Allowing.{allowed-ok, Roomy, ok-allowed}
 use Rattle.laws.proofs.Untouched.{untouched}
@@ -85,7 +85,7 @@ module _ (L : Layout) (b : List ℕ) where
       → Allowed L b a
   allowed-already e a (s, o) (t, p) l =
       let k = kind-of e s in
-      ok-allowed L b (o .sound) a t (roomy-before k o a p)
+      ok-allowed L b (o .sound) (kind-of a t) (roomy-before k o a p)
       (already (L .messages) (setsOf L b) k (kind-of a t) l
       (subst (λ x. Ok (L .messages) x a) (sets-after L b e o) (allowed-ok L (after L b e) a p)))
 

@@ -1,16 +1,15 @@
 -- The worked example's logs from demand 3: one controller is brought to deliver, and no log is looked at.
-use mathlib.Core.Path.{_≡_, refl, sym, ap, subst, subst₂, subst₃, _∙_}
-use mathlib.Core.Bool.{Bool, true, false, cond, _&&_}
+use mathlib.Core.Path.{_≡_, refl, sym, ap, subst, subst₃, _∙_}
+use mathlib.Core.Bool.{Bool, true, _&&_}
 use mathlib.Core.Logic.{_⊎_, inl, inr}
 use mathlib.Core.List.{List, [], _∷_, _++_}
-use Prim.Native.Nat.{ℕ, _+_, _*_, _≤_, _<_}
+use Prim.Native.Nat.{ℕ, _*_, _<_}
 use native.Mathlib.Omega.{arith}
-use lib.Dec.{eqb}
 use lib.ListN.{length}
 use borrow.Author.Tests.{eq-eqb, eqb-true}
 use Rattle.sets.specs.Set.{has, with, without, allBelow, cut, withAll, every, within, howMany, countBelow}
 use Rattle.sets.proofs.Tests.{both}
-use Rattle.group.specs.Place.{N, mode, count, up, log, message, delivered}
+use Rattle.group.specs.Place.{count, log, message, delivered}
 use Rattle.group.specs.Layout.{Layout, paper, words, fields}
 use Rattle.group.specs.Fit.{Fit, allAck}
 use Rattle.group.specs.Opening.{opened}

@@ -15,7 +15,7 @@ use Rattle.laws.proofs.Sets.{RecordSets, Sets, newRecord, act, inMessag
 use Rattle.laws.proofs.Sets.{afterSend, afterReceive, afterDeliver, afterLose}
 use Rattle.laws.proofs.Cells.{clash, on-one, on-cell}
 use Rattle.laws.proofs.Keep.{Inv, keep, open-inv, same-group}
-use Rattle.laws.proofs.Swap.{SettlingKind, sends, receives, delivers, detects, kind-of}
+use Rattle.laws.proofs.Onward.{SettlingKind, sends, receives, delivers, detects, kind-of}
 use Rattle.laws.proofs.Sums.{sum, sum-same, sum-const, sum-drop}
 use Rattle.laws.proofs.Weights.{recordWork, per, new-work, send-work, lose-work, receive-work, deliver-work}
 
