@@ -9,6 +9,7 @@ pub mod Meet
 pub mod Swap
 pub mod End
 pub mod Sums
+pub mod Budget
 pub mod Weights
 pub mod Work
 pub mod Whole

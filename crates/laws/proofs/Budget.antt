@@ -1,0 +1,22 @@
+-- How much is enough: the bounds on settling rise with the controllers and the messages, up to those of a full bank.
+use Prim.Native.Nat.{ℕ, _+_, _-_, _*_, _≤_}
+use native.Mathlib.Nat.{mul-le-mul}
+use native.Mathlib.Omega.{arith}
+use Rattle.laws.specs.Runs.{most}
+
+-- q steps for each copy of each message, one for each delivery, one for each detect
+rises : (q : ℕ) {n n′ c c′ : ℕ} → n ≤ n′ → c ≤ c′
+    → q * (n * n) * c + n * c + n * (n - 1) ≤ q * (n′ * n′) * c′ + n′ * c′ + n′ * (n′ - 1)
+rises q {n} {n′} l k =
+    let below : n - 1 ≤ n′ - 1 = omega arith in
+    let same : q ≤ q = omega arith in
+    omega (arith, mul-le-mul (mul-le-mul same (mul-le-mul l l)) k, mul-le-mul l k, mul-le-mul l below)
+
+pub most-rises : {n n′ c c′ : ℕ} → n ≤ n′ → c ≤ c′ → most n c ≤ most n′ c′
+unfolding most
+most-rises l k = rises 2 l k
+
+-- at the paper's size
+pub most-below : (n c : ℕ) → n ≤ 16 → c ≤ 32 → most n c ≤ 17136
+unfolding most
+most-below n c l k = rises 2 l k
