@@ -36,6 +36,7 @@ pub mod Candidates
 pub mod Choice
 pub mod Turns
 pub mod Settler
+pub mod Spoilt
 pub mod Listed
 pub mod Demand3
 pub mod Table

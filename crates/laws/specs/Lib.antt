@@ -5,4 +5,5 @@ pub mod History
 pub mod Demand
 pub mod Settler
 pub mod Demand3
+pub mod Spoilt
 pub mod Table
