@@ -1,16 +1,36 @@
--- The paper's bound grows with the group and its messages, so that a full bank's is the most that any has.
-use Prim.Native.Nat.{ℕ, _-_, _*_, _≤_}
+-- How much is enough: the bounds on settling rise with the controllers and the messages, up to those of a full bank.
+use Prim.Native.Nat.{ℕ, _+_, _-_, _*_, _≤_}
+use mathlib.Core.Path.{_≡_, refl}
 use native.Mathlib.Nat.{mul-le-mul}
 use native.Mathlib.Omega.{arith}
-use Rattle.laws.specs.Runs.{most}
+use Rattle.laws.specs.Runs.{most, mostOfAny}
 
-pub most-grows : {n m c d : ℕ} → n ≤ m → c ≤ d → most n c ≤ most m d
+-- q steps for each copy of each message, one for each delivery, one for each detect
+rises : (q : ℕ) {n n′ c c′ : ℕ} → n ≤ n′ → c ≤ c′
+    → q * (n * n) * c + n * c + n * (n - 1) ≤ q * (n′ * n′) * c′ + n′ * c′ + n′ * (n′ - 1)
+rises q {n} {n′} l k =
+    let below : n - 1 ≤ n′ - 1 = omega arith in
+    let same : q ≤ q = omega arith in
+    omega (arith, mul-le-mul (mul-le-mul same (mul-le-mul l l)) k, mul-le-mul l k, mul-le-mul l below)
+
+pub most-rises : {n n′ c c′ : ℕ} → n ≤ n′ → c ≤ c′ → most n c ≤ most n′ c′
 unfolding most
-most-grows {n} {m} {c} {d} l k =
-    let square : n * n ≤ m * m = mul-le-mul l l in
-    let twice : 2 * (n * n) ≤ 2 * (m * m) = omega arith in
-    let copies : 2 * (n * n) * c ≤ 2 * (m * m) * d = mul-le-mul twice k in
-    let deliveries : n * c ≤ m * d = mul-le-mul l k in
-    let fewer : n - 1 ≤ m - 1 = omega arith in
-    let detects : n * (n - 1) ≤ m * (m - 1) = mul-le-mul l fewer in
-    omega arith
+most-rises l k = rises _ l k
+
+pub any-rises : {n n′ c c′ : ℕ} → n ≤ n′ → c ≤ c′ → mostOfAny n c ≤ mostOfAny n′ c′
+unfolding mostOfAny
+any-rises l k = rises _ l k
+
+-- ---- at the paper's size
+
+-- "that is 17,136 for N = 16 and c = 32"
+pub full-bank : most 16 32 ≡ 17136
+unfolding most
+full-bank = refl
+
+pub most-below : (n c : ℕ) → n ≤ 16 → c ≤ 32 → most n c ≤ 17136
+most-below n c l k = omega (arith, full-bank, most-rises l k)
+
+pub any-full-bank : mostOfAny 16 32 ≡ 41712
+unfolding mostOfAny
+any-full-bank = refl

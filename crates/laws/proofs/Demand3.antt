@@ -15,7 +15,7 @@ use Rattle.laws.proofs.Stays.{down-stays, given-stays, delivered-stays,
 use Rattle.laws.proofs.Ends.{reached-by, reached-on, reached-fit, reached-logs, opened-as, same-end}
 use Rattle.laws.proofs.Agreement.{agreement, agreement-for-good, validity}
 use Rattle.laws.proofs.Turns.{settler-in-turn}
-use Rattle.laws.proofs.Settler.{steps-within-most, settler-finishes, u16-is-enough}
+use Rattle.laws.proofs.Settler.{steps-within-most, settler-finishes, largest-is-enough}
 use Rattle.laws.proofs.Telling.{settler-tells}
 use Rattle.laws.proofs.Tallied.{tally-not-refused}
 
@@ -43,7 +43,7 @@ demand-3 L n k before b r =
       one-after-another = λ d h. (settler-finishes L r d h .1, settler-in-turn L d b (reached-fit L n k r));
       same-end = λ es fs x y p q. same-end L n k r p q;
       settler-tells = λ d. settler-tells L r d;
-      u16-is-enough = u16-is-enough L r;
+      largest-is-enough = largest-is-enough L r;
       agreement = λ es x p q m i j g d u. agreement L (reached-on L n k r (p .run)) (p .ended) q m g i j d u;
       agreement-for-good = λ es fs x y p q z. agreement-for-good L r p q z;
       validity = λ es x p q m j g s u. validity L (reached-on L n k r (p .run)) (p .ended) q m g j s u;

@@ -10,6 +10,7 @@ pub mod Meet
 pub mod Swap
 pub mod End
 pub mod Sums
+pub mod Budget
 pub mod Weights
 pub mod Work
 pub mod Whole
@@ -36,8 +37,8 @@ pub mod Agreement
 pub mod Candidates
 pub mod Choice
 pub mod Turns
-pub mod Budget
 pub mod Settler
+pub mod Spoilt
 pub mod Telling
 pub mod Tallied
 pub mod Listed

@@ -18,22 +18,20 @@ use Rattle.group.proofs.Kept.{fit-after}
 use Rattle.group.proofs.Views.{size-range}
 use Rattle.settler.specs.Candidates
 use Rattle.settler.specs.Settling.{Ending, ending, onNext, settleFrom, settleOf}
-use Rattle.laws.specs.Runs.{Run, done, next, Ended, Settling, settlings, most}
+use Rattle.laws.specs.Runs.{Run, done, next, Ended, Settling, settlings, most, largestBudget}
 use Rattle.laws.specs.Demand.{Reached, Finished}
 use Rattle.laws.specs.Settler.{chosen}
-use Rattle.laws.proofs.Sets.{Ok, act}
 use Rattle.laws.proofs.Visible.{visible}
 use Rattle.laws.proofs.Bridge.{sets}
 use Rattle.laws.proofs.Cells.{is-true}
-use Rattle.laws.proofs.Keep.{Inv, run-inv}
-use Rattle.laws.proofs.Onward.{plain-run, kind-of}
+use Rattle.laws.proofs.Onward.{kind-of}
 use Rattle.laws.proofs.Work.{work, settling-work, settled-work, within-most}
 use Rattle.laws.proofs.Steps.{setsOf}
 use Rattle.laws.proofs.Allowing.{allowed-ok}
-use Rattle.laws.proofs.Lifting.{lift-settling, reached-sets, reached-inv}
+use Rattle.laws.proofs.Lifting.{lift-settling, reached-sets}
 use Rattle.laws.proofs.Reached.{fit-run}
 use Rattle.laws.proofs.Choice.{Next, next-is}
-use Rattle.laws.proofs.Budget.{most-grows}
+use Rattle.laws.proofs.Budget.{most-rises}
 
 -- what an ending says of the steps es, taken from b with k taken before and d left in the budget
 pub record EndingOf (L : Layout) (k d : ℕ) (b : List ℕ) (es : List Step) (o : Ending) : Type 0 where
@@ -103,19 +101,13 @@ module _ (L : Layout) where
     -- ---- the budget
 
     -- with a budget that covers the work no step is left
-    pub settler-ends : Inv (setsOf L b) → work (setsOf L b) ≤ d → o .quiet ≡ true
-    settler-ends i l = is-true (o .quiet) spent
-      where
-        run : Run (Settling (Ok (L .messages))) act (setsOf L b) es (setsOf L (o .bank))
-        run = lift-settling L (h .run)
-
-        spent : o .quiet ≡ false → ⊥
-        spent q =
-            let (used, (e, (s, a))) = h .busy q in
-            let one =
-            settling-work (setsOf L (o .bank)) (run-inv (L .messages) i (plain-run run)) (L .messages) (kind-of e s)
-            (allowed-ok L (o .bank) e a) in
-            lt-irrefl d (omega (arith, used, one, settled-work (L .messages) i run))
+    pub settler-ends : work (setsOf L b) ≤ d → o .quiet ≡ true
+    settler-ends l =
+        is-true (o .quiet)
+        (λ q.
+        let (used, (e, (s, a))) = h .busy q in
+        let one = settling-work (setsOf L (o .bank)) (L .messages) (kind-of e s) (allowed-ok L (o .bank) e a) in
+        lt-irrefl d (omega (arith, used, one, settled-work (L .messages) (lift-settling L (h .run)))))
 
   -- ---- from opening
 
@@ -131,24 +123,20 @@ module _ (L : Layout) where
     pub steps-within-most : {es : List Step} {c : List ℕ} → Run (Settling (Allowed L)) (after L) b es c
         → settlings before + length es ≤ most n (words L b count)
     steps-within-most q =
-        omega (arith, work-within-most, settled-work (L .messages) (reached-inv L r) (lift-settling L q))
+        omega (arith, work-within-most, settled-work (L .messages) (lift-settling L q))
 
     -- with a budget of that much the settler finishes
     pub settler-finishes : (d : ℕ) → most n (words L b count) ≤ d
         → (settleOf L b d .quiet ≡ true) × Finished L b (chosen L d b) (settleOf L b d .bank)
     settler-finishes d l =
         let h = settler-run d b (fit-run L n k (r .sized) (r .known) (r .run)) in
-        let q = settler-ends h (reached-inv L r) (omega (arith, work-within-most)) in
+        let q = settler-ends h (omega (arith, work-within-most)) in
         (q, record { run = h .run; ended = h .quiet q })
 
-    -- a u16 is budget enough where no bank of the layout has more to do
-    pub u16-is-enough : most (L .controllers) (L .messages) ≤ 65535 → settleOf L b 65535 .quiet ≡ true
-    u16-is-enough l =
+    -- the largest budget is enough where no bank of the layout has more to do
+    pub largest-is-enough : most (L .controllers) (L .messages) ≤ largestBudget
+        → settleOf L b largestBudget .quiet ≡ true
+    largest-is-enough l =
         let f = fit-run L n k (r .sized) (r .known) (r .run) in
         let few : n ≤ L .controllers = size-range L n (r .sized) .1 in
-        settler-finishes 65535 (omega (arith, most-grows few (f .given))) .0
-
--- "that is 17,136 for N = 16 and c = 32"
-pub full-bank : most 16 32 ≡ 17136
-unfolding most
-full-bank = refl
+        settler-finishes largestBudget (omega (arith, most-rises few (f .given))) .0

@@ -14,7 +14,7 @@ use Rattle.group.specs.Promises.{Allowed, after, stepOf}
 use Rattle.settler.specs.Settling.{settleOf}
 use Rattle.day.specs.Days.{lastDay}
 use Rattle.day.specs.Tallies.{tallyRefusal}
-use Rattle.laws.specs.Runs.{Run, Settling, settlings, most}
+use Rattle.laws.specs.Runs.{Run, Settling, settlings, most, largestBudget}
 use Rattle.laws.specs.Logs.{occurs, LogsRight}
 use Rattle.laws.specs.History.{HistoryRight}
 use Rattle.laws.specs.Demand.{Finished, Alike, Quorum}
@@ -67,7 +67,8 @@ pub record Demand3 (L : Layout) (n k : ℕ) (before : List Step) (b : List ℕ) 
   -- so the settler's answer tells of every order, whatever its budget; 65,535 is enough where no bank of this layout
   -- has more to do
   pub settler-tells : (d : ℕ) → Tells L b d (settleOf L b d)
-  pub u16-is-enough : most (L .controllers) (L .messages) ≤ 65535 → settleOf L b 65535 .quiet ≡ true
+  pub largest-is-enough : most (L .controllers) (L .messages) ≤ largestBudget
+      → settleOf L b largestBudget .quiet ≡ true
   -- "At that end, in all-ack, or in majority-ack with more than half the controllers up, a message delivered by any
   -- controller, up or down, stands exactly once in the log of each one up."
   pub agreement : (es : List Step) (x : List ℕ) → Finished L b es x → Quorum L x

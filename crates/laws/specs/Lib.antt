@@ -5,6 +5,7 @@ pub mod History
 pub mod Demand
 pub mod Settler
 pub mod Demand3
+pub mod Spoilt
 pub mod Calls
 pub mod CallsFromC
 pub mod Table

@@ -35,3 +35,12 @@ settlings (e ∷ es) = cond (settles e) 1 0 + settlings es
 
 unfoldable pub most : ℕ → ℕ → ℕ
 most n c = 2 * (n * n) * c + n * c + n * (n - 1)
+
+-- the most from any fit bank, spoilt or not (Spoilt.antt): there a copy may be unsent and in flight, two steps and one,
+-- and two more where its sender does not hold the message: once it does, it must send it again
+unfoldable pub mostOfAny : ℕ → ℕ → ℕ
+mostOfAny n c = 5 * (n * n) * c + n * c + n * (n - 1)
+
+-- the largest budget that a call can be given: a u16
+abbrev pub largestBudget : ℕ
+largestBudget = 65535
