@@ -1,6 +1,8 @@
 /*
- * loargwen.h: a group of up to 16 chamber controllers that broadcast readings and orders to each other, so that either
- * every controller that is still up acts on a message or none does.
+ * loargwen.h: a group of up to 16 chamber controllers that broadcast readings and orders to each other. Once it has
+ * settled, in all-ack mode, or in majority mode with more than half of the controllers up, a message that any of them
+ * has acted on, also one that is down by now, stands exactly once in the log of every controller that is up; so does
+ * every message whose sender is up. In majority mode with half of the controllers up or fewer, logs may differ.
  *
  * Link target/staticlib/libloargwen.a (`rt staticlib loargwen` makes it, for x86-64 Linux).
  *
@@ -9,11 +11,26 @@
  * of the C library it calls memcpy and memset alone. A bank may be copied, saved and put back like any other bytes.
  * Calls on different banks may run at the same time. During a call nobody else may touch the bank that it was given.
  *
- * What holds of every call, on any bytes and any numbers, spoilt banks included (proved, not tested; see
- * docs/PROMISES.md):
+ * Of every call, on any bytes and any numbers, spoilt banks included:
  *   - it ends, and never reads or writes outside the bank;
  *   - its answer and every byte of the bank afterwards are those of the written rules, and nothing else is possible;
  *   - where it answers a refusal, every byte of the bank is as it was.
+ *
+ * Of every bank that loargwen_open wrote, answering LOARGWEN_DONE, and that only the calls below changed since, in
+ * whatever order they came and whatever they answered:
+ *   - it is what the accepted steps made of the open group, one after another: those of loargwen_step that answered
+ *     LOARGWEN_DONE, and as many of loargwen_settle's as it counted;
+ *   - a controller that is down stays down; the number of controllers and the mode stay;
+ *   - a log only grows at its end; it holds messages that were broadcast, none twice, and their records hold the
+ *     senders' own stamps and values;
+ *   - the group settles: loargwen_settle with a budget of 65535 leaves no step, and whatever order its steps are taken
+ *     in instead, by loargwen_step, the group ends after equally many, with the same sets and logs but for the order
+ *     inside the logs;
+ *   - so the first sentences hold, also of what a controller acted on at any earlier moment.
+ *
+ * Both lists are proved of the code, with the definitions in crates of the repository: docs/PROMISES.md says where. That
+ * the compiled library does the same, and that this header fits it, is tested. A bank that was put back is one that
+ * these calls led to up to the moment when it was saved.
  *
  * A bank is unfit, and every call but loargwen_open refuses it with LOARGWEN_UNFIT, when it is not LOARGWEN_BANK_BYTES
  * long or its bytes cannot be a group's: a wrong number of controllers, an unknown mode, more than 32 messages, or a
@@ -51,12 +68,15 @@ enum loargwen_kind {
     LOARGWEN_LOSE = 7,      /* [from, to, message] the copy on its way is lost; one of the two must be down */
 };
 
-/* What a call answers. Where several hold, the lowest is given. */
+/*
+ * What a call answers. Where several apply the lowest is given; but the last two causes of LOARGWEN_UNFIT come after all
+ * other tests.
+ */
 enum loargwen_refusal {
     LOARGWEN_DONE = 0,
     LOARGWEN_UNFIT = 1,          /* the bank is unfit. A deliver answers it too, after all other tests, where the log is
                                     full; a tally where the log has a number that is no message. No bank that
-                                    loargwen_open wrote and the calls below changed comes to either. */
+                                    loargwen_open wrote and only the calls below changed comes to any of these. */
     LOARGWEN_NO_STEP = 2,        /* the kind is not 1 to 7, or a number that the kind does not use is not 0 */
     LOARGWEN_NO_CONTROLLER = 3,  /* a controller's number is not below the number of controllers */
     LOARGWEN_NO_MESSAGE = 4,     /* a message's number has not been given yet */
@@ -90,7 +110,7 @@ uint16_t loargwen_step(uint8_t *bank, size_t len, uint16_t kind, uint16_t a, uin
  * deliveries, always the first that nothing refuses, from the lowest numbers. It never broadcasts, crashes or loses.
  * `quiet` is 1 where no such step is left afterwards, also where the budget was just enough, and else 0: call again.
  * A group opened with n controllers that has broadcast c messages takes at most 2*n*n*c + n*c + n*(n-1) of these steps
- * in its life, 17,136 at the most.
+ * in its life, 17,136 at the most; any other bank that is fit takes at most 41,712. So a budget of 65535 leaves none.
  * Refusal: LOARGWEN_UNFIT; steps and quiet are then 0.
  */
 struct loargwen_settled {
