@@ -72,8 +72,8 @@ module _ {n k : ℕ} {before : List Step} {b : List ℕ} (h : Reached paper n k 
       unmoved
       (ap (λ a. a .bank) p ∙ open-refused-leaves paper b m j (λ e. z (ap (λ a. a .refusal) p ∙ e)))
   call-led (step kind x y z r) c p = step-led b c kind x y z r p
-  call-led (run steps a r) c p = list-led b c steps a r p
-  call-led (runSteps steps a r) c p = list-led b c (flat steps) a r p
+  call-led (run steps a r) c p = list-led b c steps a _ p
+  call-led (runSteps steps a r) c p = list-led b c (flat steps) a _ p
   call-led (settle d r t q) c p =
       let e = settle-tells d r t q c p in record { run = plain-run (e .taken); long = e .counted }
 
@@ -98,6 +98,14 @@ every-caller n k before b h =
     let r = called-reached h in
     record {
       relies = record { reached = r; demand = demand-3 paper n k before b r };
+      every-answer =
+          record {
+            opens = λ n k z. refl;
+            steps = λ kind x y z. refl;
+            runs = λ list. refl;
+            records = λ list. refl;
+            settlings = λ d. refl;
+          };
       counts = λ x c p. call-led r x c p .long;
       settling = settle-tells r;
     }

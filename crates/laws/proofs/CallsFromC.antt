@@ -142,6 +142,7 @@ every-c-caller n k before bytes h =
     record {
       whole = w;
       relies = relies;
+      every-answer = record { opens = λ n k z. refl; steps = λ kind x y z. refl; settlings = λ d. refl };
       settling = λ d r s q new p.
           (let e = settles bytes w (relies .reached) d r s q new p in
           subst (Tells paper (wordsOf bytes) d)

@@ -8,9 +8,10 @@ use lib.Dec.{eqb}
 use lib.ListN.{length}
 use Rattle.group.specs.Layout.{paper}
 use Rattle.group.specs.Step.{Step, asked}
-use Rattle.group.specs.Promises.{OpenPromise, StepPromise}
-use Rattle.group.specs.Lists.{RunPromise}
-use Rattle.settler.specs.Settling.{ending, SettlePromise}
+use Rattle.group.specs.Opening.{openOf}
+use Rattle.group.specs.Promises.{stepOf, OpenPromise, StepPromise}
+use Rattle.group.specs.Lists.{runOf, RunPromise}
+use Rattle.settler.specs.Settling.{ending, settleOf, SettlePromise}
 use Rattle.step_records.specs.declared.Step.{Step as StepRecord}
 use Rattle.step_records.specs.Records.{flat, StepsPromise}
 use Rattle.laws.specs.Demand.{Reached}
@@ -69,6 +70,19 @@ counted (run steps a r) = a
 counted (runSteps steps a r) = a
 counted (settle d r t q) = t
 
+-- none is left out: whatever is asked of whatever bank, the answer and the bank that the definitions give are promised
+pub record EveryAnswer (b : List ℕ) : Type 0 where
+  pub opens : (n k : ℕ) (z : openOf paper b n k .refusal ≡ 0 → ⊥)
+      → Promised b (openRefused n k (openOf paper b n k .refusal) z) (openOf paper b n k .bank)
+  pub steps : (kind x y z : ℕ)
+      → let a = stepOf paper b kind x y z in Promised b (step kind x y z (a .refusal)) (a .bank)
+  pub runs : (list : List ℕ)
+      → let o = runOf paper b list in Promised b (run list (o .accepted) (o .refusal)) (o .bank)
+  pub records : (list : List StepRecord)
+      → let o = runOf paper b (flat list) in Promised b (runSteps list (o .accepted) (o .refusal)) (o .bank)
+  pub settlings : (d : ℕ)
+      → let e = settleOf paper b d in Promised b (settle d (e .refusal) (e .steps) (e .quiet)) (e .bank)
+
 -- ---- any calls, one after another
 
 -- an open that answered 0, then calls as they come: the steps taken so far, and what the lent memory holds now
@@ -88,10 +102,11 @@ pub record Relies (n k : ℕ) (before : List Step) (b : List ℕ) : Type 0 where
   pub reached : Reached paper n k before b
   pub demand : Demand3 paper n k before b
 
--- whatever was called and answered: each call took as many steps as its answer counts, and a settling's answer tells
--- what is left and how every order ends
+-- whatever was called and answered, and whatever is called next: a call takes as many steps as its answer counts, and a
+-- settling's answer tells what is left and how every order ends
 pub record CallersRely (n k : ℕ) (before : List Step) (b : List ℕ) : Type 0 where
   pub relies : Relies n k before b
+  pub every-answer : EveryAnswer b
   pub counts : (x : Call) (c : List ℕ) → Promised b x c → length (taken b x) ≡ counted x
   pub settling : (d r t : ℕ) (q : Bool) (c : List ℕ) → SettlePromise b d r t q c → Tells paper b d (ending r t q c)
 

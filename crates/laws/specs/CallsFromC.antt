@@ -5,9 +5,11 @@ use mathlib.Core.List.{List, []}
 use lib.Dec.{eqb}
 use Rattle.group.specs.Layout.{paper}
 use Rattle.group.specs.Step.{Step, asked}
-use Rattle.settler.specs.Settling.{ending}
+use Rattle.group.specs.Opening.{openOf}
+use Rattle.group.specs.Promises.{stepOf}
+use Rattle.settler.specs.Settling.{ending, settleOf}
 use Rattle.loargwen.specs.Bytes.{wordsOf, bytesOf}
-use Rattle.loargwen.specs.Face.{OpenBytes, StepBytes, SettleBytes}
+use Rattle.loargwen.specs.Face.{onBytes, settleOnBytes, OpenBytes, StepBytes, SettleBytes}
 use Rattle.laws.specs.Settler.{chosen, Tells}
 use Rattle.laws.specs.Calls.{unlessRefused, Calls, Relies}
 
@@ -27,6 +29,18 @@ takenByC bytes (openRefused n k r z) = []
 takenByC bytes (step kind x y z r) = unlessRefused r (asked kind x y z)
 takenByC bytes (settle d r t q) = chosen paper t (wordsOf bytes)
 
+-- none is left out
+pub record EveryAnswerToC (bytes : List ℕ) : Type 0 where
+  pub opens : (n k : ℕ)
+      → let a = onBytes bytes (openOf paper (wordsOf bytes) n k) in
+      (z : a .refusal ≡ 0 → ⊥) → PromisedToC bytes (openRefused n k (a .refusal) z) (a .bank)
+  pub steps : (kind x y z : ℕ)
+      → let a = onBytes bytes (stepOf paper (wordsOf bytes) kind x y z) in
+      PromisedToC bytes (step kind x y z (a .refusal)) (a .bank)
+  pub settlings : (d : ℕ)
+      → let e = settleOnBytes bytes (settleOf paper (wordsOf bytes) d) in
+      PromisedToC bytes (settle d (e .refusal) (e .steps) (e .quiet)) (e .bytes)
+
 -- a loargwen_open that answered 0, then calls as they come
 abbrev pub CalledFromC : ℕ → ℕ → List Step → List ℕ → Type 0
 CalledFromC n k = Calls (λ new. (bytes : List ℕ) × OpenBytes bytes n k 0 new) PromisedToC takenByC
@@ -36,6 +50,7 @@ CalledFromC n k = Calls (λ new. (bytes : List ℕ) × OpenBytes bytes n k 0 new
 pub record CCallersRely (n k : ℕ) (before : List Step) (bytes : List ℕ) : Type 0 where
   pub whole : bytes ≡ bytesOf (wordsOf bytes)
   pub relies : Relies n k before (wordsOf bytes)
+  pub every-answer : EveryAnswerToC bytes
   pub settling : (d r t q : ℕ) (new : List ℕ) → SettleBytes bytes d r t q new
       → Tells paper (wordsOf bytes) d (ending r t (eqb q 1) (wordsOf new))
 
