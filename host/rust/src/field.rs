@@ -2,8 +2,8 @@
 
 /// A run that is lent, and the guards around it.
 pub struct Field<T> {
-    whole: Vec<T>,
-    guards: Vec<T>,
+    /// Guards, what is lent, guards.
+    pub whole: Vec<T>,
     start: usize,
     end: usize,
 }
@@ -12,12 +12,10 @@ impl<T: Copy + PartialEq + From<u8>> Field<T> {
     /// These between so many guards; with none, they are an allocation of their own.
     pub fn new(lent: &[T], before: usize, after: usize) -> Field<T> {
         let end = before + lent.len();
-        let guards: Vec<T> = (0..end + after).map(guard).collect();
-        let mut whole = guards.clone();
+        let mut whole: Vec<T> = (0..end + after).map(guard).collect();
         whole[before..end].copy_from_slice(lent);
         Field {
             whole,
-            guards,
             start: before,
             end,
         }
@@ -37,7 +35,7 @@ impl<T: Copy + PartialEq + From<u8>> Field<T> {
     pub fn changed(&self) -> Vec<i64> {
         let around = (0..self.start).chain(self.end..self.whole.len());
         around
-            .filter(|&place| self.whole[place] != self.guards[place])
+            .filter(|&place| self.whole[place] != guard(place))
             .map(|place| place as i64 - self.start as i64)
             .collect()
     }

@@ -79,15 +79,17 @@ pub fn step(bank: &mut [u16], [kind, a, b, c]: [u16; 4]) -> u16 {
 
 /// Takes steps in order up to the first refusal.
 pub fn run(bank: &mut [u16], steps: &[[u16; 4]]) -> Ran {
-    let mut ran = Ran::default();
+    let ran = |accepted, refusal| Ran { accepted, refusal };
     if fit_ref(bank).is_none() {
-        ran.refusal = refusal::UNFIT;
+        return ran(0, refusal::UNFIT);
     }
-    while ran.refusal == refusal::DONE && ran.accepted < steps.len() {
-        ran.refusal = step(bank, steps[ran.accepted]);
-        ran.accepted += usize::from(ran.refusal == refusal::DONE);
+    for (accepted, &four) in steps.iter().enumerate() {
+        let refusal = step(bank, four);
+        if refusal != refusal::DONE {
+            return ran(accepted, refusal);
+        }
     }
-    ran
+    ran(steps.len(), refusal::DONE)
 }
 
 /// The same of four words a step.
