@@ -1,8 +1,9 @@
 # What the C and Rust tests share: the compiler and the emulator for the archives, which are x86-64 code, the programs
-# built from them, and the count of checks. Sourced, at the top of the repository, with part set, the name of the tests.
+# built from them, and the count of checks. Sourced, at the top of the repository; where checks are counted, part is the
+# name of the tests.
 
 archives=(loargwen step_records word_face)
-made=target/staticlib
+staticlib=target/staticlib
 built=target/tests
 warnings=(-Wall -Wextra -Werror)
 checks=0
@@ -57,7 +58,7 @@ choose_tools() { # sets compile, the words of the compiler, and emulate, those b
 }
 
 build_archive() { # build_archive NAME: unless it is there and no file of a crate is newer
-    local library=$made/lib$1.a
+    local library=$staticlib/lib$1.a
     if [ ! -f "$library" ] || [ -n "$(find crates crates.txt -newer "$library")" ]; then
         rt staticlib "$1"
     fi
@@ -76,5 +77,5 @@ link_c() { # link_c SOURCE PROGRAM FOLDER NAME..: compiles a C program with arch
 }
 
 build_server() {
-    link_c tests/c/server.c "$built/server" "$made" "${archives[@]}"
+    link_c tests/c/server.c "$built/server" "$staticlib" "${archives[@]}"
 }

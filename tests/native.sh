@@ -3,7 +3,7 @@
 # module that it is given; the same module is then compiled for this processor. Sourced after tests/lib.sh.
 
 if native; then
-    libraries=$made programs=target/bin
+    libraries=$staticlib programs=target/bin
 else
     libraries=target/native programs=target/native
 fi

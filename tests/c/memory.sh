@@ -1,7 +1,7 @@
 # The archives under valgrind, in this machine's own code (tests/native.sh): the C programs, and the comparison with the
 # second implementation on banks, lists and buffers that are each an allocation of exactly their bytes. That an access
-# past one is found is shown with banks that are a byte short and buffers that are a word short. Sourced by tests/c/run,
-# which has built the archives.
+# past the end is found is shown with banks and a buffer that are a byte short. Sourced by tests/c/run, which has built
+# the archives.
 . tests/rust/lib.sh
 
 seed=21 error=9
