@@ -2,6 +2,8 @@
 PREFIX ?= /usr/local
 SEED ?= 1
 MINUTES ?= 10
+SHELL := bash
+.SHELLFLAGS := -eu -o pipefail -c
 .PHONY: bench test soak benchmark install format
 
 # proves and builds the bench, then runs the worked example

@@ -1,11 +1,34 @@
-# What the C and Rust tests share: the compiler and the emulator for the archive, which is x86-64 code, and the programs
-# built from it. Sourced, at the top of the repository.
+# What the C and Rust tests share: the compiler and the emulator for the archives, which are x86-64 code, the programs
+# built from them, and the count of checks. Sourced, at the top of the repository; where checks are counted, part is the
+# name of the tests.
 
-archive=target/staticlib/libloargwen.a
+archives=(loargwen step_records word_face)
+staticlib=target/staticlib
 built=target/tests
 warnings=(-Wall -Wextra -Werror)
+checks=0
 
-native() { # whether this machine runs the archive's code itself
+passes() { # passes WHAT: one check more; a script ends where one fails
+    checks=$((checks + 1))
+    echo "$part: $1"
+}
+
+say_count() { # the last line, which the gate takes over
+    echo "$checks passed, 0 failed"
+}
+
+must_end() { # must_end STATUS WHAT COMMAND..: by this exit status and no other
+    local want=$1 what=$2 status=0
+    shift 2
+    "$@" || status=$?
+    [ "$status" -eq "$want" ] || {
+        echo "$part: $what: exit status $status, not $want"
+        return 1
+    }
+    passes "$what: exit status $want, as it must be"
+}
+
+native() { # whether this machine runs the archives' code itself
     [ "$(uname -m)" = x86_64 ]
 }
 
@@ -34,15 +57,25 @@ choose_tools() { # sets compile, the words of the compiler, and emulate, those b
     fi
 }
 
-build_archive() {
-    rt staticlib loargwen
+build_archive() { # build_archive NAME: unless it is there and no file of a crate is newer
+    local library=$staticlib/lib$1.a
+    if [ ! -f "$library" ] || [ -n "$(find crates crates.txt -newer "$library")" ]; then
+        rt staticlib "$1"
+    fi
 }
 
-link_c() { # link_c SOURCE PROGRAM ARCHIVE: compiles a C program with an archive
+each_archive() { # each_archive COMMAND: for the name of each
+    local name
+    for name in "${archives[@]}"; do "$1" "$name"; done
+}
+
+link_c() { # link_c SOURCE PROGRAM FOLDER NAME..: compiles a C program with archives of a folder
+    local source=$1 program=$2 folder=$3
+    shift 3
     mkdir -p "$built"
-    "${compile[@]}" -O2 -g "${warnings[@]}" -I include "$1" "$3" -o "$2"
+    "${compile[@]}" -O2 -g "${warnings[@]}" -I include "$source" -L "$folder" "${@/#/-l}" -o "$program"
 }
 
 build_server() {
-    link_c tests/c/server.c "$built/server" "$archive"
+    link_c tests/c/server.c "$built/server" "$staticlib" "${archives[@]}"
 }

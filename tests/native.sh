@@ -3,7 +3,7 @@
 # module that it is given; the same module is then compiled for this processor. Sourced after tests/lib.sh.
 
 if native; then
-    libraries=target/staticlib programs=target/bin
+    libraries=$staticlib programs=target/bin
 else
     libraries=target/native programs=target/native
 fi
@@ -50,7 +50,7 @@ compile_kept() { # compile_kept OBJECT FLAG..: with the flags that rattle gives,
 
 native_archive() { # native_archive NAME: $libraries/libNAME.a, beside the x86-64 archive where rt leaves it
     if native; then
-        rt staticlib "$1"
+        build_archive "$1"
         return
     fi
     rt_keeping staticlib "$1"

@@ -1,24 +1,29 @@
 /*
- * Serves the C face over standard input and output, so that a program for another machine can call the archive.
+ * Serves the archives over standard input and output, so that a program for another machine can call them.
  *
- * A request is the call's number (1 open, 2 step, 3 settle, 4 tally), four arguments, two bytes each, the number of the
- * bank's bytes in four, and these bytes. The answer is the refusal and two numbers, two bytes each, a third in four,
- * and the bank's bytes afterwards. In every number the low byte comes first; numbers that a call does not have are 0.
+ * A request is the call's number (1 open, 2 step, 3 settle, 4 tally; on words 5 run, 6 run_steps, 7 refusal, 8
+ * log_length, 9 log), four arguments, two bytes each, the numbers of the bank's bytes and of those lent beside it, the
+ * list or the buffer, in four each, and all these bytes. The answer is the refusal and two numbers, two bytes each, a
+ * third in four, and both runs of bytes afterwards. In every number and word the low byte comes first; numbers that a
+ * call does not have are 0.
  *
- * Each call gets a bank of its own on the heap, of exactly the bytes sent, between guard bytes: where one of these was
- * changed the program aborts. It ends with 0 at the end of its input.
+ * Each call gets a bank, and a list or a buffer, of its own on the heap, of exactly the bytes sent, between guard
+ * bytes: where one of these was changed the program aborts. It ends with 0 at the end of its input.
  */
 #include <stdio.h>
 #include <stdlib.h>
 
 #include "loargwen.h"
+#include "words.h"
 
-enum { OPEN = 1, STEP = 2, SETTLE = 3, TALLY = 4 };
-enum { REQUEST_BYTES = 14, ANSWER_BYTES = 10, GUARD = 64, SHIFTS = 8, PIPE_BYTES = 1 << 16 };
+_Static_assert(__BYTE_ORDER__ == __ORDER_LITTLE_ENDIAN__, "bytes are lent as the words that they are");
+
+enum { OPEN = 1, STEP, SETTLE, TALLY, RUN, RUN_STEPS, REFUSAL, LOG_LENGTH, LOG };
+enum { REQUEST_BYTES = 18, ANSWER_BYTES = 10, GUARD = 64, SHIFTS = 8, PIPE_BYTES = 1 << 16 };
 
 struct request {
     uint16_t call, args[4];
-    uint32_t len;
+    uint32_t len, beside_len;
 };
 
 struct answer {
@@ -26,7 +31,7 @@ struct answer {
     uint32_t third;
 };
 
-/* one allocation: guard bytes, the bank, guard bytes */
+/* one allocation: guard bytes, what is lent, guard bytes */
 struct field {
     uint8_t *bytes;
     size_t start, end, whole;
@@ -73,6 +78,7 @@ static int read_request(struct request *request)
     for (size_t i = 0; i < 4; i++)
         request->args[i] = get16(bytes + 2 + 2 * i);
     request->len = get32(bytes + 10);
+    request->beside_len = get32(bytes + 14);
     return 1;
 }
 
@@ -81,20 +87,30 @@ static uint8_t guard(size_t place)
     return (uint8_t)(place * 37 ^ 0xA5);
 }
 
-/* the shift gives the bank every alignment in turn */
+/* the shift gives what is lent every alignment in turn */
 static struct field read_field(size_t len, size_t shift)
 {
     struct field field = {NULL, GUARD + shift, GUARD + shift + len, GUARD + shift + len + GUARD};
     field.bytes = malloc(field.whole);
     if (field.bytes == NULL)
-        fail("no memory for a bank");
+        fail("no memory for what is lent");
     for (size_t i = 0; i < field.start; i++)
         field.bytes[i] = guard(i);
     for (size_t i = field.end; i < field.whole; i++)
         field.bytes[i] = guard(i);
     if (fread(field.bytes + field.start, 1, len, stdin) != len)
-        fail("a bank is cut short");
+        fail("what is lent is cut short");
     return field;
+}
+
+static uint8_t *lent(const struct field *field)
+{
+    return field->bytes + field->start;
+}
+
+static size_t length(const struct field *field)
+{
+    return field->end - field->start;
 }
 
 static void check_guards(const struct field *field)
@@ -103,11 +119,16 @@ static void check_guards(const struct field *field)
         if (i == field->start)
             i = field->end;
         if (field->bytes[i] != guard(i)) {
-            fprintf(stderr, "server: guard byte at %ld from the bank's start was changed\n",
+            fprintf(stderr, "server: guard byte at %ld from the start of what is lent was changed\n",
                     (long)i - (long)field->start);
             abort();
         }
     }
+}
+
+static struct answer refusal_alone(uint16_t refusal)
+{
+    return (struct answer){refusal, 0, 0, 0};
 }
 
 static struct answer settle(uint8_t *bank, size_t len, uint16_t budget)
@@ -122,36 +143,106 @@ static struct answer tally(const uint8_t *bank, size_t len, uint16_t who, uint16
     return (struct answer){tallied.refusal, tallied.count, 0, tallied.sum};
 }
 
-static struct answer call(const struct request *request, uint8_t *bank)
+static struct answer ran(struct ran ran)
+{
+    return (struct answer){ran.refusal, 0, 0, (uint32_t)ran.accepted};
+}
+
+static struct answer log_length(const uint16_t *bank, size_t len, uint16_t who)
+{
+    struct log_length found = words_log_length(bank, len, who);
+    return (struct answer){found.refusal, found.length, 0, 0};
+}
+
+static struct answer copy_log(const uint16_t *bank, size_t len, uint16_t who, uint16_t *out, size_t room)
+{
+    return (struct answer){0, 0, 0, (uint32_t)words_log(bank, len, who, out, room)};
+}
+
+static struct answer call_on_bytes(const struct request *request, uint8_t *bank, size_t len)
 {
     const uint16_t *args = request->args;
-    size_t len = request->len;
     switch (request->call) {
     case OPEN:
-        return (struct answer){loargwen_open(bank, len, args[0], args[1]), 0, 0, 0};
+        return refusal_alone(loargwen_open(bank, len, args[0], args[1]));
     case STEP:
-        return (struct answer){loargwen_step(bank, len, args[0], args[1], args[2], args[3]), 0, 0, 0};
+        return refusal_alone(loargwen_step(bank, len, args[0], args[1], args[2], args[3]));
     case SETTLE:
         return settle(bank, len, args[0]);
     case TALLY:
         return tally(bank, len, args[0], args[1]);
     default:
         fail("no such call");
-        return (struct answer){0, 0, 0, 0};
+        return refusal_alone(0);
     }
 }
 
-static void write_answer(const struct answer *answer, const struct field *field)
+/* the lengths are of words */
+static struct answer call_on_words(const struct request *request, uint16_t *bank, size_t len, uint16_t *beside,
+                                   size_t beside_len)
+{
+    const uint16_t *args = request->args;
+    switch (request->call) {
+    case RUN:
+        return ran(words_run(bank, len, beside, beside_len));
+    case RUN_STEPS:
+        return ran(run_steps(bank, len, (const struct step *)beside, beside_len / 4));
+    case REFUSAL:
+        return refusal_alone(words_refusal(bank, len, args[0], args[1], args[2], args[3]));
+    case LOG_LENGTH:
+        return log_length(bank, len, args[0]);
+    case LOG:
+        return copy_log(bank, len, args[0], beside, beside_len);
+    default:
+        fail("no such call");
+        return refusal_alone(0);
+    }
+}
+
+static int on_words(const struct request *request)
+{
+    return request->call > TALLY;
+}
+
+static struct answer call(const struct request *request, const struct field *bank, const struct field *beside)
+{
+    if (!on_words(request))
+        return call_on_bytes(request, lent(bank), length(bank));
+    if (length(bank) % 2 != 0 || length(beside) % 2 != 0)
+        fail("half a word is lent");
+    return call_on_words(request, (uint16_t *)lent(bank), length(bank) / 2, (uint16_t *)lent(beside),
+                         length(beside) / 2);
+}
+
+static int write_lent(const struct field *field)
+{
+    return fwrite(lent(field), 1, length(field), stdout) == length(field);
+}
+
+static void write_answer(const struct answer *answer, const struct field *bank, const struct field *beside)
 {
     uint8_t bytes[ANSWER_BYTES];
-    size_t len = field->end - field->start;
     put16(bytes, answer->refusal);
     put16(bytes + 2, answer->first);
     put16(bytes + 4, answer->second);
     put32(bytes + 6, answer->third);
-    if (fwrite(bytes, 1, sizeof bytes, stdout) != sizeof bytes ||
-        fwrite(field->bytes + field->start, 1, len, stdout) != len || fflush(stdout) != 0)
+    if (fwrite(bytes, 1, sizeof bytes, stdout) != sizeof bytes || !write_lent(bank) || !write_lent(beside) ||
+        fflush(stdout) != 0)
         fail("the answer cannot be written");
+}
+
+static void serve(const struct request *request, size_t shift)
+{
+    if (on_words(request))
+        shift -= shift % sizeof(uint16_t);
+    struct field bank = read_field(request->len, shift);
+    struct field beside = read_field(request->beside_len, shift);
+    struct answer answer = call(request, &bank, &beside);
+    check_guards(&bank);
+    check_guards(&beside);
+    write_answer(&answer, &bank, &beside);
+    free(bank.bytes);
+    free(beside.bytes);
 }
 
 int main(void)
@@ -159,12 +250,7 @@ int main(void)
     struct request request;
     setvbuf(stdin, NULL, _IOFBF, PIPE_BYTES);
     setvbuf(stdout, NULL, _IOFBF, PIPE_BYTES);
-    for (size_t made = 0; read_request(&request); made++) {
-        struct field field = read_field(request.len, made % SHIFTS);
-        struct answer answer = call(&request, field.bytes + field.start);
-        check_guards(&field);
-        write_answer(&answer, &field);
-        free(field.bytes);
-    }
+    for (size_t made = 0; read_request(&request); made++)
+        serve(&request, made % SHIFTS);
     return 0;
 }

@@ -9,13 +9,13 @@ cargo_host() { # cargo_host COMMAND FLAG..: in host/rust
     cargo "$command" --manifest-path host/rust/Cargo.toml --release --offline --locked -j2 "$@"
 }
 
-build_linked() { # build_linked PROGRAM FEATURE: with archives of this machine's own code
-    LOARGWEN_LIB=$PWD/$libraries cargo_host build --features "$2" --bin "$1"
+build_linked() { # build_linked PROGRAM: with archives of this machine's own code
+    LOARGWEN_LIB=$PWD/$libraries cargo_host build --features archive --bin "$1"
 }
 
-build_compare() { # sets reach, the flags by which compare reaches the archive
+build_compare() { # sets reach, the flags by which compare reaches the archives
     if native; then
-        build_linked compare archive
+        build_linked compare
         reach=()
     else
         cargo_host build --bin compare
@@ -34,6 +34,8 @@ build_files() {
     cargo_host build --bin files
 }
 
-compare_files() { # compare_files COUNT: the bench on random and damaged files
-    "$CARGO_TARGET_DIR/release/files" bin/bench "$seed" "$1"
+compare_files() { # compare_files BENCH COUNT FLAG..: a bench on random and damaged files
+    local bench=$1 count=$2
+    shift 2
+    "$CARGO_TARGET_DIR/release/files" "$bench" "$seed" "$count" "$@"
 }

@@ -3,6 +3,7 @@ ghost use Rattle.group.specs.Logs.{LengthPromise, LogPromise};
 use crate::Bank;
 
 // A log's length, 0 where the question is refused.
+#[repr(C)]
 pub struct LogLength {
     pub refusal: u16,
     pub length: u16,

@@ -1,6 +1,7 @@
-//! What the settler and the tally answer, in numbers.
+//! What the calls answer, in numbers, laid out as the archives hand it over.
 
 /// The settler's answer.
+#[repr(C)]
 #[derive(Clone, Copy, PartialEq, Eq, Debug, Default)]
 pub struct Settled {
     /// 0 or 1.
@@ -12,6 +13,7 @@ pub struct Settled {
 }
 
 /// The tally's answer.
+#[repr(C)]
 #[derive(Clone, Copy, PartialEq, Eq, Debug, Default)]
 pub struct Day {
     /// 0 or the refusal.
@@ -20,6 +22,26 @@ pub struct Day {
     pub count: u16,
     /// The sum of their values.
     pub sum: u32,
+}
+
+/// A list's answer.
+#[repr(C)]
+#[derive(Clone, Copy, PartialEq, Eq, Debug, Default)]
+pub struct Ran {
+    /// The steps accepted.
+    pub accepted: usize,
+    /// 0, or the refusal that ended the list.
+    pub refusal: u16,
+}
+
+/// The answer to the question how long a log is.
+#[repr(C)]
+#[derive(Clone, Copy, PartialEq, Eq, Debug, Default)]
+pub struct LogLength {
+    /// 0 or the refusal.
+    pub refusal: u16,
+    /// The length of the used part.
+    pub length: u16,
 }
 
 impl Settled {

@@ -1,9 +1,9 @@
 //! The group over any lent bytes: the fit test, decoding, and writing back only what a step touches.
 
-use crate::answer::{Day, Settled};
+use crate::answer::{Day, LogLength, Ran, Settled};
 use crate::layout;
 use crate::plant::Plant;
-use crate::refusal::{DONE, UNFIT};
+use crate::refusal::{CONTROLLER, DONE, DOWN, RAGGED, UNFIT};
 use crate::rules::{Group, Message, Mode, CONTROLLERS, MESSAGES};
 use crate::set::Set;
 use crate::step::Step;
@@ -146,6 +146,11 @@ impl Bank {
         }
     }
 
+    /// Whether this fault is planted.
+    fn has_fault(&self, plant: Plant) -> bool {
+        self.plant == Some(plant)
+    }
+
     /// The bytes as they stand.
     pub fn bytes(&self) -> &[u8] {
         &self.bytes
@@ -189,14 +194,48 @@ impl Bank {
         }
     }
 
-    /// Applies a list: how many steps were accepted, and the refusal.
-    pub fn list(&mut self, words: &[u16]) -> (usize, u16) {
+    /// What refuses a step, or 0; nothing is changed.
+    pub fn refusal(&self, numbers: [u16; 4]) -> u16 {
+        let Some(group) = &self.group else {
+            return UNFIT;
+        };
+        match group.allowed(numbers).err() {
+            Some(DOWN) if self.has_fault(Plant::NextNumber) => {
+                let mut revived = group.clone();
+                revived.up.add(numbers[1]);
+                revived.allowed(numbers).err().unwrap_or(DOWN)
+            }
+            refusal => refusal.unwrap_or(DONE),
+        }
+    }
+
+    /// Applies a list of steps, four words each.
+    pub fn list(&mut self, words: &[u16]) -> Ran {
+        let ragged = !words.len().is_multiple_of(4) && self.has_fault(Plant::RaggedFirst);
         let Some(group) = self.group.as_mut() else {
-            return (0, UNFIT);
+            return Ran {
+                accepted: 0,
+                refusal: if ragged { RAGGED } else { UNFIT },
+            };
         };
         let (taken, refusal) = group.list(words);
         self.write_back(&taken);
-        (taken.len(), refusal)
+        let refused = !matches!(refusal, DONE | RAGGED);
+        Ran {
+            accepted: taken.len() + usize::from(refused && self.has_fault(Plant::CountRefused)),
+            refusal,
+        }
+    }
+
+    /// Applies a list of step records, as if it were their words.
+    pub fn records(&mut self, steps: &[[u16; 4]]) -> Ran {
+        let ran = self.list(steps.as_flattened());
+        if self.has_fault(Plant::GoOn) {
+            steps.iter().skip(ran.accepted).for_each(|&step| {
+                self.step(step);
+            });
+        }
+        ran
     }
 
     /// Settles within a budget.
@@ -223,9 +262,28 @@ impl Bank {
     }
 
     /// The length of a log, 0 when refused, and the refusal.
-    pub fn log_length(&self, who: u16) -> (u16, u16) {
+    pub fn log_length(&self, who: u16) -> LogLength {
         let (log, refusal) = self.log(who);
-        (log.len() as u16, refusal)
+        LogLength {
+            refusal: match refusal {
+                CONTROLLER if self.has_fault(Plant::StrangerUnfit) => UNFIT,
+                _ => refusal,
+            },
+            length: log.len() as u16,
+        }
+    }
+
+    /// Copies the used part of a log into a buffer, as far as it reaches; that part's length.
+    pub fn copy_log(&self, who: u16, out: &mut [u16]) -> usize {
+        let (log, _) = self.log(who);
+        let missing = usize::from(self.has_fault(Plant::ShortLog));
+        let log = &log[..log.len().saturating_sub(missing)];
+        let (copy, rest) = out.split_at_mut(log.len().min(out.len()));
+        copy.copy_from_slice(&log[..copy.len()]);
+        if self.has_fault(Plant::ClearRest) {
+            rest.fill(0);
+        }
+        log.len()
     }
 
     /// The tally of a controller for a day.
@@ -247,9 +305,9 @@ impl Bank {
     }
 
     fn put_set(&mut self, place: usize, set: &Set, n: u16) {
-        let before = match self.plant {
-            Some(Plant::HighBits) => 0,
-            _ => word(&self.bytes, place),
+        let before = match self.has_fault(Plant::HighBits) {
+            true => 0,
+            false => word(&self.bytes, place),
         };
         self.put(place, word_of(set, n, before));
     }

@@ -120,31 +120,58 @@ type Done = Result<(), String>;
 /// One call, mostly a step.
 fn any_call(contest: &mut Contest, random: &mut Random) -> Done {
     match random.below(100) {
-        0..80 => {
-            let garbage = random.chance(8);
-            let step = match contest.group().filter(|_| !garbage) {
-                Some(group) => random.likely_step(group),
-                None => random.garbage_step(contest.group()),
-            };
-            contest.step(step).map(drop)
-        }
-        80..92 => contest.step(random.garbage_step(contest.group())).map(drop),
-        92..97 => {
+        0..72 => contest.step(any_step(contest, random)).map(drop),
+        72..84 => contest.step(random.garbage_step(contest.group())).map(drop),
+        84..88 => {
             let budget = random.pick(&[0, 1, 2, 5, 20]);
             contest.settle(budget).map(drop)
         }
-        _ => any_tally(contest, random),
+        88..90 => any_tally(contest, random),
+        _ => any_word_call(contest, random),
+    }
+}
+
+/// A likely step, seldom one without sense.
+fn any_step(contest: &Contest, random: &mut Random) -> [u16; 4] {
+    let garbage = random.chance(8);
+    match contest.group().filter(|_| !garbage) {
+        Some(group) => random.likely_step(group),
+        None => random.garbage_step(contest.group()),
     }
 }
 
 fn any_tally(contest: &mut Contest, random: &mut Random) -> Done {
-    let n = contest.group().map_or(3, |group| group.n);
-    let who = match random.below(8) {
-        0 => random.pick(&[n, n + 1, 16, 65_535]),
-        _ => random.under(n),
-    };
+    let who = random.asked_for(contest.group());
     let day = random.day(contest.group());
     contest.tally(who, day).map(drop)
+}
+
+/// One call on words, where the bank is words.
+fn any_word_call(contest: &mut Contest, random: &mut Random) -> Done {
+    if !contest.is_words() {
+        return Ok(());
+    }
+    match random.below(6) {
+        0 => contest.list(&random.list(contest.group())),
+        1 => contest.records(&random.steps(contest.group())),
+        2 => contest.refusal(any_step(contest, random)).map(drop),
+        3 => contest
+            .refusal(random.garbage_step(contest.group()))
+            .map(drop),
+        4 => contest
+            .log_length(random.asked_for(contest.group()))
+            .map(drop),
+        _ => any_log(contest, random),
+    }
+}
+
+/// A log into a buffer that is too short for it, or just suffices, or has words left.
+fn any_log(contest: &mut Contest, random: &mut Random) -> Done {
+    let who = random.asked_for(contest.group());
+    let logs = contest.group().map_or(&[][..], |group| &group.logs);
+    let length = logs.get(usize::from(who)).map_or(0, Vec::len);
+    let room = random.pick(&[0, length / 2, length, length + 1, 32, 40]);
+    contest.log(who, room)
 }
 
 /// How much work a settling may be for the model: controllers squared times messages.
@@ -180,6 +207,7 @@ fn opened(contest: &mut Contest, random: &mut Random, calls: usize) -> Done {
         last_settle(contest, random)?;
         for _ in 0..8 {
             any_tally(contest, random)?;
+            any_log(contest, random)?;
         }
     }
     Ok(())
@@ -225,6 +253,7 @@ fn unfit(contest: &mut Contest, random: &mut Random) -> Done {
         contest.step([1 + random.under(7), 0, 0, 0])?;
         contest.settle(random.pick(&[0, 1, u16::MAX]))?;
         contest.tally(random.under(20), random.day(None))?;
+        (0..6).try_for_each(|_| any_word_call(contest, random))?;
     }
     contest.open(random.pick(&[0, 1, 3, 16, 17]), random.pick(&[0, 1, 2, 3]))?;
     any_call(contest, random)

@@ -1,76 +1,18 @@
-//! One call made on both sides: the model on plain sets and tested calls on guarded bytes.
+//! One call made on both sides: the model on plain sets and tested calls on guarded bytes or words.
 
 use std::fmt::Debug;
 
-use crate::answer::{Day, Settled};
+use crate::answer::{Day, LogLength, Ran, Settled};
 use crate::bank::Bank;
+use crate::calls::{Calls, Record};
+use crate::crossing::{bytes_of, words_of};
+use crate::field::Field;
 use crate::figures::Figures;
-use crate::layout::{self, WORDS};
+use crate::layout;
 use crate::plant::Plant;
 use crate::random::Random;
-use crate::refusal::{DONE, UNFIT};
+use crate::refusal::DONE;
 use crate::rules::Group;
-use crate::words;
-
-/// The four calls on bytes.
-pub trait Calls {
-    /// Opens a group.
-    fn open(&self, bank: &mut [u8], n: u16, mode: u16) -> u16;
-    /// Takes one step.
-    fn step(&self, bank: &mut [u8], step: [u16; 4]) -> u16;
-    /// Settles within a budget.
-    fn settle(&self, bank: &mut [u8], budget: u16) -> Settled;
-    /// The tally of a controller for a day.
-    fn tally(&self, bank: &[u8], who: u16, day: u16) -> Day;
-}
-
-/// The plain version, through bytes.
-pub struct Plain;
-
-/// Makes a call, which gives its refusal first, on the words of a bank and writes them back if it was not refused;
-/// `None` when the length is wrong.
-fn through<T>(bank: &mut [u8], call: impl FnOnce(&mut [u16]) -> (u16, T)) -> Option<T> {
-    let mut words = [0; WORDS];
-    if !words::load(&mut words, bank) {
-        return None;
-    }
-    let (refusal, answer) = call(&mut words);
-    if refusal == DONE {
-        words::to_bytes(&words, bank);
-    }
-    Some(answer)
-}
-
-/// The pair that `through` wants of a call that answers its refusal alone.
-fn twice(refusal: u16) -> (u16, u16) {
-    (refusal, refusal)
-}
-
-impl Calls for Plain {
-    fn open(&self, bank: &mut [u8], n: u16, mode: u16) -> u16 {
-        through(bank, |words| twice(words::open(words, n, mode))).unwrap_or(UNFIT)
-    }
-
-    fn step(&self, bank: &mut [u8], step: [u16; 4]) -> u16 {
-        through(bank, |words| twice(words::step(words, step))).unwrap_or(UNFIT)
-    }
-
-    fn settle(&self, bank: &mut [u8], budget: u16) -> Settled {
-        let settled = through(bank, |words| {
-            let settled = words::settle(words, budget);
-            (settled.refusal, settled)
-        });
-        settled.unwrap_or(Settled::refused(UNFIT))
-    }
-
-    fn tally(&self, bank: &[u8], who: u16, day: u16) -> Day {
-        let mut words = [0; WORDS];
-        if !words::load(&mut words, bank) {
-            return Day::refused(UNFIT);
-        }
-        words::tally(&words, who, day)
-    }
-}
 
 /// What a comparison runs on.
 pub struct Setting<'a> {
@@ -80,46 +22,38 @@ pub struct Setting<'a> {
     pub plant: Option<Plant>,
     /// The seed of the whole comparison.
     pub seed: u64,
-    /// Guard bytes before and after a bank; with none, a bank is an allocation of its own.
+    /// Guards before and after what is lent; with none, it is an allocation of its own.
     pub guard: usize,
-}
-
-/// The guard byte at a place of the field.
-fn guard(place: usize) -> u8 {
-    (place as u8).wrapping_mul(37) ^ 0xA5
 }
 
 /// Both sides of a comparison, on the same bytes.
 pub struct Contest<'a> {
     calls: &'a dyn Calls,
     model: Bank,
-    field: Vec<u8>,
-    guards: Vec<u8>,
-    start: usize,
+    bank: Field<u8>,
+    guard: usize,
+    /// Guards around words that the last call changed, a line each.
+    strayed: String,
     made: u64,
     figures: &'a mut Figures,
 }
 
 impl<'a> Contest<'a> {
-    /// Lends these bytes to both sides, at any alignment when there are guard bytes.
+    /// Lends these bytes to both sides, at any alignment when there are guards.
     pub fn new(
         setting: &Setting<'a>,
         bytes: &[u8],
         random: &mut Random,
         figures: &'a mut Figures,
     ) -> Contest<'a> {
+        let guard = setting.guard;
         let shift = random.below(4);
-        let start = setting.guard + shift.min(setting.guard);
-        let end = start + bytes.len();
-        let guards: Vec<u8> = (0..end + setting.guard).map(guard).collect();
-        let mut field = guards.clone();
-        field[start..end].copy_from_slice(bytes);
         Contest {
             calls: setting.calls,
             model: Bank::planted(bytes, setting.plant),
-            field,
-            guards,
-            start,
+            bank: Field::new(bytes, guard + shift.min(guard), guard),
+            guard,
+            strayed: String::new(),
             made: 0,
             figures,
         }
@@ -130,24 +64,23 @@ impl<'a> Contest<'a> {
         self.model.group()
     }
 
-    fn end(&self) -> usize {
-        self.start + self.model.bytes().len()
+    /// Whether the bank is whole words, so that it can be lent as such.
+    pub fn is_words(&self) -> bool {
+        self.bank.lent().len().is_multiple_of(2)
     }
 
     /// Opens a group on both sides.
     pub fn open(&mut self, n: u16, mode: u16) -> Result<u16, String> {
-        let (start, end) = (self.start, self.end());
         let want = self.model.open(n, mode);
-        let got = self.calls.open(&mut self.field[start..end], n, mode);
+        let got = self.calls.open(self.bank.lent_mut(), n, mode);
         self.figures.answer("open", want);
         self.check(|| format!("open {n} {mode}"), want, got)
     }
 
     /// Takes a step on both sides.
-    pub fn step(&mut self, step: [u16; 4]) -> Result<u16, String> {
-        let (start, end) = (self.start, self.end());
+    pub fn step(&mut self, step: Record) -> Result<u16, String> {
         let want = self.model.step(step);
-        let got = self.calls.step(&mut self.field[start..end], step);
+        let got = self.calls.step(self.bank.lent_mut(), step);
         self.figures.answer("step", want);
         if want == DONE {
             *self.figures.kinds.entry(step[0]).or_default() += 1;
@@ -157,9 +90,8 @@ impl<'a> Contest<'a> {
 
     /// Settles on both sides.
     pub fn settle(&mut self, budget: u16) -> Result<Settled, String> {
-        let (start, end) = (self.start, self.end());
         let want = self.model.settle(budget);
-        let got = self.calls.settle(&mut self.field[start..end], budget);
+        let got = self.calls.settle(self.bank.lent_mut(), budget);
         self.figures.answer("settle", want.refusal);
         self.figures.settled += u64::from(want.steps);
         self.figures.quiet += u64::from(want.quiet);
@@ -169,11 +101,95 @@ impl<'a> Contest<'a> {
 
     /// Tallies on both sides.
     pub fn tally(&mut self, who: u16, day: u16) -> Result<Day, String> {
-        let (start, end) = (self.start, self.end());
         let want = self.model.tally(who, day);
-        let got = self.calls.tally(&self.field[start..end], who, day);
+        let got = self.calls.tally(self.bank.lent(), who, day);
         self.figures.answer("tally", want.refusal);
         self.check(|| format!("tally {who} {day}"), want, got)
+    }
+
+    /// Applies a list of steps on both sides, four words each.
+    pub fn list(&mut self, steps: &[u16]) -> Result<(), String> {
+        let want = self.model.list(steps);
+        let got = self.on_words(steps, |calls, bank, steps| calls.run(bank, steps));
+        self.check_list("list", steps, want, got)
+    }
+
+    /// Applies a list of step records on both sides.
+    pub fn records(&mut self, steps: &[Record]) -> Result<(), String> {
+        let want = self.model.records(steps);
+        let flat = steps.as_flattened();
+        let got = self.on_words(flat, |calls, bank, steps| {
+            calls.run_steps(bank, steps.as_chunks().0)
+        });
+        self.check_list("records", flat, want, got)
+    }
+
+    /// Asks both sides what refuses a step.
+    pub fn refusal(&mut self, step: Record) -> Result<u16, String> {
+        let want = self.model.refusal(step);
+        let (got, _) = self.on_words(&[], |calls, bank, _| calls.refusal(bank, step));
+        self.figures.answer("refusal", want);
+        self.check(|| format!("refusal {step:?}"), want, got)
+    }
+
+    /// Asks both sides how long a log is.
+    pub fn log_length(&mut self, who: u16) -> Result<LogLength, String> {
+        let want = self.model.log_length(who);
+        let (got, _) = self.on_words(&[], |calls, bank, _| calls.log_length(bank, who));
+        self.figures.answer("log length", want.refusal);
+        self.check(|| format!("log length {who}"), want, got)
+    }
+
+    /// Copies a log on both sides into a buffer of so many words. What comes over must stand in the bank.
+    pub fn log(&mut self, who: u16, room: usize) -> Result<(), String> {
+        let before: Vec<u16> = (0..room).map(|place| 60_000 + place as u16).collect();
+        let mut buffer = before.clone();
+        let length = self.model.copy_log(who, &mut buffer);
+        let got = self.on_words(&before, |calls, bank, out| calls.log(bank, who, out));
+        self.figures.answer("log", length as u16);
+        let call = || format!("log {who} into {room} words");
+        let (length, copy) = self.check(call, (length, buffer), got)?;
+        match self.holds_log(who, &copy[..length.min(room)]) {
+            true => Ok(()),
+            false => Err(format!("{}: not what the bank holds\n", call())),
+        }
+    }
+
+    /// Whether the bank's own words begin a log with these entries.
+    fn holds_log(&self, who: u16, entries: &[u16]) -> bool {
+        let words = words_of(self.bank.lent());
+        let log = words.get(layout::log(usize::from(who))..);
+        entries.is_empty() || log.is_some_and(|log| log.starts_with(entries))
+    }
+
+    /// Makes a call on the bank's words and more words lent beside them, each between guards of their own; the bank's
+    /// bytes become what its words then are. The other words come back with the answer.
+    fn on_words<A>(
+        &mut self,
+        beside: &[u16],
+        call: impl FnOnce(&dyn Calls, &mut [u16], &mut [u16]) -> A,
+    ) -> (A, Vec<u16>) {
+        let before = self.guard + (self.made as usize % 4).min(self.guard);
+        let mut bank = Field::new(&words_of(self.bank.lent()), before, self.guard);
+        let mut beside = Field::new(beside, before, self.guard);
+        let answer = call(self.calls, bank.lent_mut(), beside.lent_mut());
+        self.bank.lent_mut().copy_from_slice(&bytes_of(bank.lent()));
+        self.strayed = strayed("word", "bank", &bank) + &strayed("word", "list or buffer", &beside);
+        (answer, beside.lent().to_vec())
+    }
+
+    /// Compares the answers to a list, which has to stay as it was.
+    fn check_list(
+        &mut self,
+        call: &'static str,
+        steps: &[u16],
+        want: Ran,
+        got: (Ran, Vec<u16>),
+    ) -> Result<(), String> {
+        self.figures.answer(call, want.refusal);
+        self.figures.listed += want.accepted as u64;
+        let want = (want, steps.to_vec());
+        self.check(|| call.to_string(), want, got).map(drop)
     }
 
     /// Compares the answers, every byte of the bank, and the guards.
@@ -184,24 +200,22 @@ impl<'a> Contest<'a> {
         got: T,
     ) -> Result<T, String> {
         self.made += 1;
-        let (start, end) = (self.start, self.end());
-        let bank = &self.field[start..end];
-        let whole =
-            self.field[..start] == self.guards[..start] && self.field[end..] == self.guards[end..];
-        if want == got && bank == self.model.bytes() && whole {
+        let strayed = std::mem::take(&mut self.strayed) + &strayed("byte", "bank", &self.bank);
+        if want == got && self.bank.lent() == self.model.bytes() && strayed.is_empty() {
             return Ok(want);
         }
         let mut text = format!("call {}: {}\n", self.made, call());
         text += &format!("  answer: model {want:?}, tested {got:?}\n");
-        text += &differing(self.model.bytes(), bank);
-        for place in (0..start).chain(end..self.field.len()) {
-            if self.field[place] != self.guards[place] {
-                let place = place as i64 - start as i64;
-                text += &format!("  guard byte at {place} from the bank's start was changed\n");
-            }
-        }
-        Err(text)
+        text += &differing(self.model.bytes(), self.bank.lent());
+        Err(text + &strayed)
     }
+}
+
+/// The guards around a field that were changed, a line each.
+fn strayed<T: Copy + PartialEq + From<u8>>(unit: &str, lent: &str, field: &Field<T>) -> String {
+    let line =
+        |place| format!("  guard {unit} at {place} from the start of the {lent} was changed\n");
+    field.changed().into_iter().map(line).collect()
 }
 
 /// The first bytes that differ, a line each.

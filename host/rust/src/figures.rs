@@ -12,6 +12,8 @@ pub struct Figures {
     pub answers: BTreeMap<&'static str, BTreeMap<u16, u64>>,
     /// Accepted single steps of each kind.
     pub kinds: BTreeMap<u16, u64>,
+    /// Accepted steps of lists.
+    pub listed: u64,
     /// Steps taken inside the settler.
     pub settled: u64,
     /// The most steps that one settling took.
@@ -64,6 +66,9 @@ impl fmt::Display for Figures {
         }
         if !self.kinds.is_empty() {
             writeln!(f, "accepted steps by kind ({})", listed(&self.kinds))?;
+        }
+        if self.listed > 0 {
+            writeln!(f, "accepted steps of lists {}", self.listed)?;
         }
         if self.calls("settle") > 0 {
             let (settled, longest, quiet) = (self.settled, self.longest, self.quiet);

@@ -5,36 +5,39 @@
 //! - `file`: the bench's file and its printed text;
 //! - `words`, `words_file`: a straightforward version on words, for ratios;
 //! - `random`, `banks`, `files`: what is fed to both sides;
+//! - `calls`: the calls under test; `plain`: those of the straightforward version;
+//! - `face`: those of the archives, linked (feature `archive`);
+//! - `served`: the same in a process of its own, for machines that the archives are not made for;
 //! - `contest`, `cases`, `figures`: one call made on both sides, and whole cases of calls;
-//! - `face`: the C face of the archive, linked (feature `archive`);
-//! - `records`: the archive's lists of step records, linked (feature `step_records`);
-//! - `served`: the same in a process of its own, for machines that the archive is not made for;
+//! - `field`, `crossing`: what is lent to the calls under test, between guards, as bytes or words;
 //! - `plant`: faults that can be planted in the rules, which a comparison has to find;
 //! - `args`, `measure`: what the programs share.
 //!
 //! Programs: `compare` (the archive, random calls), `files` (the bench, random files), `benchmark`
 //! (ratios), `plain` (the bench on the straightforward version). Without arguments the first two
-//! say how they are called. `benchmark` needs the feature `step_records`, `compare` without `--served` the
-//! feature `archive`, and both, when built, LOARGWEN_LIB, the folder of the archives.
+//! say how they are called. `benchmark`, and `compare` without `--served`, need the feature
+//! `archive` and, when built, LOARGWEN_LIB, the folder of the archives.
 
 pub mod answer;
 pub mod args;
 pub mod bank;
 pub mod banks;
+pub mod calls;
 pub mod cases;
 pub mod contest;
+pub mod crossing;
 pub mod day;
 #[cfg(feature = "archive")]
 pub mod face;
+pub mod field;
 pub mod figures;
 pub mod file;
 pub mod files;
 pub mod layout;
 pub mod measure;
+pub mod plain;
 pub mod plant;
 pub mod random;
-#[cfg(feature = "step_records")]
-pub mod records;
 pub mod refusal;
 pub mod rules;
 pub mod served;

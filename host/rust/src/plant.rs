@@ -21,11 +21,25 @@ pub enum Plant {
     Order,
     /// A set word that changes loses its bits of N and above.
     HighBits,
+    /// A list counts the step that it was refused.
+    CountRefused,
+    /// That a list is ragged is tested before the bank.
+    RaggedFirst,
+    /// A list of step records goes on after a refused step.
+    GoOn,
+    /// Asked about a step of one that is down, the next number that applies is given.
+    NextNumber,
+    /// The log of a controller of N or more is refused as if the bank were unfit.
+    StrangerUnfit,
+    /// A log that is copied lacks its last entry.
+    ShortLog,
+    /// The words of a buffer after a log that is copied into it are cleared.
+    ClearRest,
 }
 
 impl Plant {
     /// Every fault with the name it has on a command line.
-    pub const ALL: [(&'static str, Plant); 9] = [
+    pub const ALL: [(&'static str, Plant); 16] = [
         ("half", Plant::Half),
         ("own-ack", Plant::OwnAck),
         ("clear-flight", Plant::ClearFlight),
@@ -35,6 +49,13 @@ impl Plant {
         ("budget", Plant::Budget),
         ("order", Plant::Order),
         ("high-bits", Plant::HighBits),
+        ("count-refused", Plant::CountRefused),
+        ("ragged-first", Plant::RaggedFirst),
+        ("go-on", Plant::GoOn),
+        ("next-number", Plant::NextNumber),
+        ("stranger-unfit", Plant::StrangerUnfit),
+        ("short-log", Plant::ShortLog),
+        ("clear-rest", Plant::ClearRest),
     ];
 
     /// The fault of that name.

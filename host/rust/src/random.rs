@@ -1,9 +1,7 @@
 //! A small generator that gives the same numbers for the same seed, and the steps and days drawn from it.
 
 use crate::day::{LAST_DAY, QUARTERS};
-use crate::refusal::DONE;
 use crate::rules::Group;
-use crate::step::Step;
 
 /// The generator: splitmix64.
 #[derive(Clone, Debug)]
@@ -98,6 +96,45 @@ impl Random {
         }
     }
 
+    /// A list of steps, four words each: mostly allowed ones, some with a refused one among them, some ragged.
+    pub fn list(&mut self, group: Option<&Group>) -> Vec<u16> {
+        let mut words = self.steps(group).concat();
+        if self.chance(12) {
+            let length = words.len().saturating_sub(4) + 1 + self.below(3);
+            words.resize(length, 0);
+        }
+        words
+    }
+
+    /// The same as step records, which are never ragged.
+    pub fn steps(&mut self, group: Option<&Group>) -> Vec<[u16; 4]> {
+        let mut group = group.cloned();
+        let most = self.pick(&[0, 1, 4, 4, 12, 40]);
+        let mut steps = Vec::new();
+        for _ in 0..most {
+            let step = match &group {
+                Some(group) if !self.chance(3) => self.likely_step(group),
+                group => self.garbage_step(group.as_ref()),
+            };
+            let refused = group
+                .as_mut()
+                .is_some_and(|group| group.step(step).is_err());
+            if !refused || self.chance(10) {
+                steps.push(step);
+            }
+        }
+        steps
+    }
+
+    /// A controller, mostly one of the group's.
+    pub fn asked_for(&mut self, group: Option<&Group>) -> u16 {
+        let n = group.map_or(3, |group| group.n);
+        match self.below(8) {
+            0 => self.pick(&[n, n + 1, 16, 65_535]),
+            _ => self.under(n),
+        }
+    }
+
     /// A controller, mostly one that is up.
     fn who(&mut self, group: &Group) -> u16 {
         let start = self.under(group.n);
@@ -141,7 +178,7 @@ impl Random {
                 7 => self.with_other(group, |other| [7, other, who, message]),
                 _ => self.with_other(group, |other| [kind, who, other, message]),
             };
-            if allowed(group, step) {
+            if group.allowed(step).is_ok() {
                 break;
             }
         }
@@ -153,7 +190,7 @@ impl Random {
         let start = self.under(group.n);
         (0..group.n)
             .map(|turn| step((start + turn) % group.n))
-            .find(|&four| allowed(group, four))
+            .find(|&four| group.allowed(four).is_ok())
             .unwrap_or_else(|| step(start))
     }
 
@@ -187,11 +224,6 @@ impl Random {
         let [a, b, c] = [0; 3].map(|_: u16| self.edge(group));
         [kind, a, b, if self.chance(30) { 0 } else { c }]
     }
-}
-
-/// Whether the group would take this step.
-fn allowed(group: &Group, four: [u16; 4]) -> bool {
-    Step::read(four).is_some_and(|step| group.refusal(step) == DONE)
 }
 
 /// The days at the edges.

@@ -106,12 +106,16 @@ impl Group {
 
     /// Takes the step of these four numbers, or refuses it; the step is handed back if taken.
     pub fn step(&mut self, numbers: [u16; 4]) -> Result<Step, u16> {
+        let step = self.allowed(numbers)?;
+        self.apply(step);
+        Ok(step)
+    }
+
+    /// The step of these four numbers if it is allowed, or what refuses it.
+    pub fn allowed(&self, numbers: [u16; 4]) -> Result<Step, u16> {
         let step = Step::read(numbers).ok_or(KIND)?;
         match self.refusal(step) {
-            DONE => {
-                self.apply(step);
-                Ok(step)
-            }
+            DONE => Ok(step),
             refusal => Err(refusal),
         }
     }

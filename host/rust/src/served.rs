@@ -1,4 +1,4 @@
-//! The C face of the archive in a process of its own: requests on its standard input, answers on its output.
+//! The archives in a process of its own: requests on its standard input, answers on its output.
 //!
 //! tests/c/server.c says how both are written. A process that fails answers nothing more: each call then gives a
 //! refusal that no rule gives, and `failure` tells what happened.
@@ -7,19 +7,28 @@ use std::cell::RefCell;
 use std::io::{self, BufReader, BufWriter, Read, Write};
 use std::process::{Child, ChildStdin, ChildStdout, Command, Stdio};
 
-use crate::answer::{Day, Settled};
-use crate::contest::Calls;
+use crate::answer::{Day, LogLength, Ran, Settled};
+use crate::calls::{Calls, Record};
+use crate::crossing::{bytes_of, words_of};
 
 const OPEN: u16 = 1;
 const STEP: u16 = 2;
 const SETTLE: u16 = 3;
 const TALLY: u16 = 4;
+const RUN: u16 = 5;
+const RUN_STEPS: u16 = 6;
+const REFUSAL: u16 = 7;
+const LOG_LENGTH: u16 = 8;
+const LOG: u16 = 9;
 
 const ANSWER_BYTES: usize = 10;
 const PIPE_BYTES: usize = 1 << 16;
 
 /// The refusal given when the process has failed.
 pub const FAILED: u16 = u16::MAX;
+
+/// What is asked: the call's number and its arguments.
+type Asked = (u16, [u16; 4]);
 
 /// The numbers of an answer.
 struct Answer {
@@ -35,7 +44,14 @@ impl Answer {
             refusal: FAILED,
             first: 0,
             second: 0,
-            third: 0,
+            third: u32::MAX,
+        }
+    }
+
+    fn ran(&self) -> Ran {
+        Ran {
+            accepted: self.third as usize,
+            refusal: self.refusal,
         }
     }
 
@@ -76,23 +92,27 @@ impl Server {
         })
     }
 
-    fn ask(&mut self, call: u16, args: [u16; 4], bank: &[u8]) -> io::Result<()> {
-        let len = u32::try_from(bank.len()).map_err(io::Error::other)?;
+    fn ask(&mut self, (call, args): Asked, lent: &[&mut [u8]; 2]) -> io::Result<()> {
         self.requests.write_all(&call.to_le_bytes())?;
-        for arg in args {
-            self.requests.write_all(&arg.to_le_bytes())?;
+        self.requests.write_all(&bytes_of(&args))?;
+        for run in lent {
+            let len = u32::try_from(run.len()).map_err(io::Error::other)?;
+            self.requests.write_all(&len.to_le_bytes())?;
         }
-        self.requests.write_all(&len.to_le_bytes())?;
-        self.requests.write_all(bank)?;
+        for run in lent {
+            self.requests.write_all(run)?;
+        }
         self.requests.flush()
     }
 
-    /// Makes a call; `bank` gets the bytes afterwards.
-    fn call(&mut self, call: u16, args: [u16; 4], bank: &mut [u8]) -> io::Result<Answer> {
-        self.ask(call, args, bank)?;
+    /// Makes a call on two runs of bytes, the bank's and another, which get the bytes afterwards.
+    fn call(&mut self, asked: Asked, lent: [&mut [u8]; 2]) -> io::Result<Answer> {
+        self.ask(asked, &lent)?;
         let mut bytes = [0; ANSWER_BYTES];
         self.answers.read_exact(&mut bytes)?;
-        self.answers.read_exact(bank)?;
+        for run in lent {
+            self.answers.read_exact(run)?;
+        }
         Ok(Answer::from_bytes(bytes))
     }
 
@@ -120,7 +140,7 @@ enum State {
     Failed(String),
 }
 
-/// The four calls, served by a process.
+/// The calls, served by a process.
 pub struct Served {
     state: RefCell<State>,
 }
@@ -162,9 +182,9 @@ impl Served {
         }
     }
 
-    fn call(&self, call: u16, args: [u16; 4], bank: &mut [u8]) -> Answer {
+    fn call(&self, asked: Asked, lent: [&mut [u8]; 2]) -> Answer {
         let made = match &mut *self.state.borrow_mut() {
-            State::Serving(server) => server.call(call, args, bank),
+            State::Serving(server) => server.call(asked, lent),
             State::Failed(_) => return Answer::failed(),
         };
         made.unwrap_or_else(|error| {
@@ -172,19 +192,43 @@ impl Served {
             Answer::failed()
         })
     }
+
+    /// A call that only reads, of which nothing may come back changed.
+    fn call_reading(&self, asked: Asked, bank: &[u8], beside: &mut [u8]) -> Answer {
+        let mut after = bank.to_vec();
+        let answer = self.call(asked, [&mut after, beside]);
+        if after != bank && self.failure().is_none() {
+            self.fail(format!("call {} changed what it only reads", asked.0));
+            return Answer::failed();
+        }
+        answer
+    }
+
+    /// A list on the words of a bank.
+    fn call_list(&self, call: u16, bank: &mut [u16], steps: &[u16]) -> Ran {
+        let (mut after, mut list) = (bytes_of(bank), bytes_of(steps));
+        let answer = self.call((call, [0; 4]), [&mut after, &mut list]);
+        if words_of(&list) != steps && self.failure().is_none() {
+            self.fail(format!("call {call} changed its list"));
+            return Answer::failed().ran();
+        }
+        bank.copy_from_slice(&words_of(&after));
+        answer.ran()
+    }
 }
 
 impl Calls for Served {
     fn open(&self, bank: &mut [u8], n: u16, mode: u16) -> u16 {
-        self.call(OPEN, [n, mode, 0, 0], bank).refusal
+        let asked = (OPEN, [n, mode, 0, 0]);
+        self.call(asked, [bank, &mut []]).refusal
     }
 
-    fn step(&self, bank: &mut [u8], step: [u16; 4]) -> u16 {
-        self.call(STEP, step, bank).refusal
+    fn step(&self, bank: &mut [u8], step: Record) -> u16 {
+        self.call((STEP, step), [bank, &mut []]).refusal
     }
 
     fn settle(&self, bank: &mut [u8], budget: u16) -> Settled {
-        let answer = self.call(SETTLE, [budget, 0, 0, 0], bank);
+        let answer = self.call((SETTLE, [budget, 0, 0, 0]), [bank, &mut []]);
         Settled {
             refusal: answer.refusal,
             steps: answer.first,
@@ -193,16 +237,40 @@ impl Calls for Served {
     }
 
     fn tally(&self, bank: &[u8], who: u16, day: u16) -> Day {
-        let mut after = bank.to_vec();
-        let answer = self.call(TALLY, [who, day, 0, 0], &mut after);
-        if after != bank && self.failure().is_none() {
-            self.fail("a tally changed the bank".to_string());
-            return Day::refused(FAILED);
-        }
+        let answer = self.call_reading((TALLY, [who, day, 0, 0]), bank, &mut []);
         Day {
             refusal: answer.refusal,
             count: answer.first,
             sum: answer.third,
         }
+    }
+
+    fn run(&self, bank: &mut [u16], steps: &[u16]) -> Ran {
+        self.call_list(RUN, bank, steps)
+    }
+
+    fn run_steps(&self, bank: &mut [u16], steps: &[Record]) -> Ran {
+        self.call_list(RUN_STEPS, bank, steps.as_flattened())
+    }
+
+    fn refusal(&self, bank: &[u16], step: Record) -> u16 {
+        let asked = (REFUSAL, step);
+        self.call_reading(asked, &bytes_of(bank), &mut []).refusal
+    }
+
+    fn log_length(&self, bank: &[u16], who: u16) -> LogLength {
+        let asked = (LOG_LENGTH, [who, 0, 0, 0]);
+        let answer = self.call_reading(asked, &bytes_of(bank), &mut []);
+        LogLength {
+            refusal: answer.refusal,
+            length: answer.first,
+        }
+    }
+
+    fn log(&self, bank: &[u16], who: u16, out: &mut [u16]) -> usize {
+        let mut buffer = bytes_of(out);
+        let answer = self.call_reading((LOG, [who, 0, 0, 0]), &bytes_of(bank), &mut buffer);
+        out.copy_from_slice(&words_of(&buffer));
+        answer.third as usize
     }
 }

@@ -1,6 +1,6 @@
 //! The plain version on words: the same calls written straightforwardly, for ratios.
 
-use crate::answer::{Day, Settled};
+use crate::answer::{Day, Ran, Settled};
 use crate::layout::{
     length, log, record, trust, ACKED, BYTES, COUNT, DELIVERED, FLIGHT, HELD, MESSAGES, MODE, N,
     RECORD, SENDER, STAMP, UNSENT, UP, VALUE, WORDS,
@@ -45,6 +45,11 @@ fn fit_mut(bank: &mut [u16]) -> Option<&mut Words> {
     fit(bank).then_some(bank)
 }
 
+/// The same, to be read.
+fn fit_ref(bank: &[u16]) -> Option<&Words> {
+    <&Words>::try_from(bank).ok().filter(|bank| fit(bank))
+}
+
 /// Opens a group.
 pub fn open(bank: &mut [u16], n: u16, mode: u16) -> u16 {
     if bank.len() != WORDS {
@@ -72,18 +77,31 @@ pub fn step(bank: &mut [u16], [kind, a, b, c]: [u16; 4]) -> u16 {
     }
 }
 
-/// Takes steps in order up to the first refusal: how many were accepted, and the refusal.
-pub fn run(bank: &mut [u16], steps: &[[u16; 4]]) -> (usize, u16) {
-    if fit_mut(bank).is_none() {
-        return (0, refusal::UNFIT);
+/// Takes steps in order up to the first refusal.
+pub fn run(bank: &mut [u16], steps: &[[u16; 4]]) -> Ran {
+    let ran = |accepted, refusal| Ran { accepted, refusal };
+    if fit_ref(bank).is_none() {
+        return ran(0, refusal::UNFIT);
     }
     for (accepted, &four) in steps.iter().enumerate() {
         let refusal = step(bank, four);
         if refusal != refusal::DONE {
-            return (accepted, refusal);
+            return ran(accepted, refusal);
         }
     }
-    (steps.len(), refusal::DONE)
+    ran(steps.len(), refusal::DONE)
+}
+
+/// The same of four words a step.
+pub fn run_flat(bank: &mut [u16], steps: &[u16]) -> Ran {
+    match steps.as_chunks() {
+        (steps, []) => run(bank, steps),
+        _ if fit_ref(bank).is_none() => run(bank, &[]),
+        _ => Ran {
+            accepted: 0,
+            refusal: refusal::RAGGED,
+        },
+    }
 }
 
 fn act(bank: &mut Words, kind: u16, a: u16, b: u16, c: u16) -> u16 {
@@ -334,21 +352,28 @@ fn first_delivery(bank: &Words, message: u16) -> Option<[u16; 4]> {
     None
 }
 
-/// The tally of a controller for a day.
-pub fn tally(bank: &[u16], who: u16, day: u16) -> Day {
-    let Some(bank) = <&Words>::try_from(bank).ok().filter(|bank| fit(bank)) else {
-        return Day::refused(refusal::UNFIT);
-    };
+/// The used part of a log, or what refuses the question.
+pub fn log_of(bank: &[u16], who: u16) -> Result<&[u16], u16> {
+    let bank = fit_ref(bank).ok_or(refusal::UNFIT)?;
     if who >= bank[N] {
-        return Day::refused(refusal::CONTROLLER);
-    }
-    if day > 682 {
-        return Day::refused(refusal::DAY);
+        return Err(refusal::CONTROLLER);
     }
     let start = log(usize::from(who));
     let used = usize::from(bank[length(usize::from(who))]);
+    Ok(&bank[start..start + used])
+}
+
+/// The tally of a controller for a day.
+pub fn tally(bank: &[u16], who: u16, day: u16) -> Day {
+    let entries = match log_of(bank, who) {
+        Ok(entries) => entries,
+        Err(refusal) => return Day::refused(refusal),
+    };
+    if day > 682 {
+        return Day::refused(refusal::DAY);
+    }
     let mut answer = Day::default();
-    for &message in &bank[start..start + used] {
+    for &message in entries {
         if message >= bank[COUNT] {
             return Day::refused(refusal::UNFIT);
         }

@@ -1,8 +1,9 @@
 //! The model against the plain version on random cases; every number reached; planted faults found.
 
 use loargwen_host::cases;
-use loargwen_host::contest::{Plain, Setting};
+use loargwen_host::contest::Setting;
 use loargwen_host::figures::Figures;
+use loargwen_host::plain::Plain;
 use loargwen_host::plant::Plant;
 
 const CASES: u64 = 1_200;
@@ -36,6 +37,12 @@ fn the_plain_version_agrees_and_every_number_is_reached() {
     reached("open", &[0, 1, 11, 12]);
     reached("settle", &[0, 1]);
     reached("tally", &[0, 1, 3, 14]);
+    reached("list", &[0, 1, 2, 3, 4, 5, 6, 8, 9, 10, 13]);
+    reached("records", &[0, 1, 2, 3, 4, 5, 6, 8, 9, 10]);
+    reached("refusal", &[0, 1, 2, 3, 4, 5, 6, 7, 8, 9, 10]);
+    reached("log length", &[0, 1, 3]);
+    reached("log", &[0, 1, 2, 3, 20]);
+    assert!(figures.listed > 1_000);
     assert_eq!(figures.kinds.len(), 7);
     for name in cases::NAMES {
         assert!(figures.cases.contains_key(name), "no case '{name}'");

@@ -1,5 +1,6 @@
 //! Every number given back, and which one goes first where several apply.
 
+use loargwen_host::answer::{LogLength, Ran};
 use loargwen_host::bank::Bank;
 use loargwen_host::layout::{self, BYTES};
 use loargwen_host::rules::Group;
@@ -169,32 +170,63 @@ fn opening_writes_every_word() {
     }
 }
 
+fn ran(accepted: usize, refusal: u16) -> Ran {
+    Ran { accepted, refusal }
+}
+
 #[test]
 fn a_list_is_tested_1_then_13_then_stops_at_a_refusal() {
     let mut unfit = Bank::new(&[0; BYTES]);
-    assert_eq!(unfit.list(&[1, 0, 0]), (0, 1));
+    assert_eq!(unfit.list(&[1, 0, 0]), ran(0, 1));
+    assert_eq!(unfit.records(&[[1, 0, 0, 0]]), ran(0, 1));
     let mut bank = opened(2, 1, &[]);
     let before = bank.bytes().to_vec();
-    assert_eq!(bank.list(&[1, 0, 0, 0, 5]), (0, 13));
+    assert_eq!(bank.list(&[1, 0, 0, 0, 5]), ran(0, 13));
     assert_eq!(bank.bytes(), before);
-    assert_eq!(bank.list(&[]), (0, 0));
-    let list = [1, 0, 0, 9, 1, 1, 0, 8, 4, 0, 0, 0, 5, 0, 0, 0];
-    assert_eq!(bank.list(&list), (2, 9));
-    let same = opened(2, 1, &[[1, 0, 0, 9], [1, 1, 0, 8]]);
+    assert_eq!(bank.list(&[]), ran(0, 0));
+    let list = [[1, 0, 0, 9], [1, 1, 0, 8], [4, 0, 0, 0], [5, 0, 0, 0]];
+    let mut by_record = bank.clone();
+    assert_eq!(bank.list(&list.concat()), ran(2, 9));
+    assert_eq!(by_record.records(&list), ran(2, 9));
+    let same = opened(2, 1, &list[..2]);
     assert_eq!(bank.bytes(), same.bytes());
+    assert_eq!(by_record.bytes(), same.bytes());
+}
+
+#[test]
+fn what_refuses_a_step_is_what_the_step_gives() {
+    let bank = opened(2, 1, &[[1, 0, 0, 9], [2, 0, 1, 0]]);
+    for step in [[0, 0, 0, 0], [2, 0, 1, 0], [2, 0, 0, 0], [4, 0, 0, 0]] {
+        assert_eq!(bank.refusal(step), number(&bank, step), "{step:?}");
+    }
+    assert_eq!(Bank::new(&[0; BYTES]).refusal([0; 4]), 1);
 }
 
 #[test]
 fn log_questions() {
     let mut bank = opened(2, 1, &[[1, 0, 0, 0], [1, 1, 0, 0]]);
     bank.settle(u16::MAX);
-    assert_eq!(bank.log_length(1), (2, 0));
+    let length = |refusal, length| LogLength { refusal, length };
+    assert_eq!(bank.log_length(1), length(0, 2));
     assert_eq!(bank.log(1), (&[0, 1][..], 0));
-    assert_eq!(bank.log_length(2), (0, 3));
+    assert_eq!(bank.log_length(2), length(3, 0));
     assert_eq!(bank.log(2), (&[][..], 3));
     let unfit = with(&bank, layout::length(0), 3);
-    assert_eq!(unfit.log_length(1), (0, 1));
+    assert_eq!(unfit.log_length(1), length(1, 0));
     assert_eq!(unfit.log(1), (&[][..], 1));
+}
+
+#[test]
+fn a_log_is_copied_as_far_as_the_buffer_reaches() {
+    let mut bank = opened(2, 1, &[[1, 0, 0, 0], [1, 1, 0, 0], [1, 0, 0, 0]]);
+    bank.settle(u16::MAX);
+    let copied = |who, room| {
+        let mut out = vec![77; room];
+        (bank.copy_log(who, &mut out), out)
+    };
+    assert_eq!(copied(1, 5), (3, vec![0, 1, 2, 77, 77]));
+    assert_eq!(copied(1, 2), (3, vec![0, 1]));
+    assert_eq!(copied(2, 2), (0, vec![77, 77]));
 }
 
 #[test]

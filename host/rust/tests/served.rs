@@ -1,6 +1,6 @@
 //! A served process that cannot be started, or fails, is told and never taken for an answer.
 
-use loargwen_host::contest::Calls;
+use loargwen_host::calls::Calls;
 use loargwen_host::layout;
 use loargwen_host::served::{Served, FAILED};
 
@@ -18,6 +18,12 @@ fn a_process_that_ends_early_is_told() {
     assert_eq!(served.step(&mut bank, [1, 0, 0, 0]), FAILED);
     assert_eq!(served.settle(&mut bank, 9).refusal, FAILED);
     assert_eq!(served.tally(&bank, 0, 0).refusal, FAILED);
+    let mut words = vec![0; layout::WORDS];
+    assert_eq!(served.run(&mut words, &[5, 0, 0, 0]).refusal, FAILED);
+    assert_eq!(served.run_steps(&mut words, &[[5; 4]]).refusal, FAILED);
+    assert_eq!(served.refusal(&words, [5, 0, 0, 0]), FAILED);
+    assert_eq!(served.log_length(&words, 0).refusal, FAILED);
+    assert!(served.log(&words, 0, &mut [0; 32]) > layout::MESSAGES);
     let text = served.failure().expect("a failure");
     assert!(text.contains("exit status: 1"), "{text}");
     assert!(served.finish().is_err());

@@ -3,6 +3,8 @@
 use std::time::Duration;
 
 use loargwen_host::args::Args;
+use loargwen_host::crossing::{bytes_of, words_of};
+use loargwen_host::field::Field;
 use loargwen_host::figures::Figures;
 use loargwen_host::measure::{time, Row, Times};
 use loargwen_host::plant::Plant;
@@ -41,6 +43,25 @@ fn command_lines() {
 fn faults_have_names() {
     assert_eq!(Plant::named("half"), Ok(Plant::Half));
     assert!(Plant::named("quarter").is_err());
+}
+
+#[test]
+fn a_guard_that_is_changed_is_told() {
+    let mut field = Field::new(&[7_u16, 8], 3, 2);
+    field.lent_mut().copy_from_slice(&[9, 10]);
+    assert_eq!((field.lent(), field.changed()), (&[9, 10][..], vec![]));
+    for place in [2, 5] {
+        field.whole[place] ^= 1;
+    }
+    assert_eq!(field.changed(), [-1, 2]);
+    let bare = Field::new(&[1_u8, 2, 3], 0, 0);
+    assert_eq!((&bare.whole[..], bare.changed()), (bare.lent(), vec![]));
+}
+
+#[test]
+fn words_cross_low_byte_first() {
+    assert_eq!(bytes_of(&[0x0102, 0xFF00]), [2, 1, 0, 0xFF]);
+    assert_eq!(words_of(&[2, 1, 0, 0xFF, 7]), [0x0102, 0xFF00]);
 }
 
 #[test]

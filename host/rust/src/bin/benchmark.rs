@@ -7,16 +7,17 @@ use std::path::{Path, PathBuf};
 use std::process::{Command, ExitCode, Stdio};
 use std::time::{Duration, Instant};
 
-use loargwen_host::answer::Day;
+use loargwen_host::answer::{Day, Ran};
 use loargwen_host::bank::Bank;
-use loargwen_host::contest::{Calls, Plain};
+use loargwen_host::calls::Calls;
 use loargwen_host::face::Archive;
 use loargwen_host::layout::{BYTES, WORDS};
 use loargwen_host::measure::{Row, Times};
+use loargwen_host::plain::Plain;
 use loargwen_host::random::Random;
 use loargwen_host::refusal::DONE;
 use loargwen_host::words::Words;
-use loargwen_host::{banks, files, records, words};
+use loargwen_host::{banks, files, words};
 
 const STEPS: usize = 4_000;
 const PROCESSES: usize = 501;
@@ -103,8 +104,12 @@ fn words_row(bytes: &[u8], steps: &[[u16; 4]]) -> Row {
     let steps = accepted(bytes, steps);
     let start = words_of(bytes);
     let (mut ours, mut plain) = (start, start);
-    assert_eq!(records::run(&mut ours, &steps), (steps.len(), DONE));
-    assert_eq!(words::run(&mut plain, &steps), (steps.len(), DONE));
+    let whole = Ran {
+        accepted: steps.len(),
+        refusal: DONE,
+    };
+    assert_eq!(Archive.run_steps(&mut ours, &steps), whole);
+    assert_eq!(words::run(&mut plain, &steps), whole);
     assert!(ours == plain, "the two lists leave different banks");
     Row::measure(
         &format!("one step through words, of {}", steps.len()),
@@ -114,7 +119,7 @@ fn words_row(bytes: &[u8], steps: &[[u16; 4]]) -> Row {
         },
         || {
             let mut bank = start;
-            timed(|| records::run(black_box(&mut bank), black_box(&steps)))
+            timed(|| Archive.run_steps(black_box(&mut bank), black_box(&steps)))
         },
         || {
             let mut bank = start;

@@ -1,11 +1,12 @@
-//! Compares the model on plain sets with the archive, through the C face, on random cases.
+//! Compares the model on plain sets with the archives, through C, on random cases.
 
 use std::process::ExitCode;
 use std::time::{Duration, Instant};
 
 use loargwen_host::args::{self, Args};
+use loargwen_host::calls::Calls;
 use loargwen_host::cases;
-use loargwen_host::contest::{Calls, Setting};
+use loargwen_host::contest::Setting;
 use loargwen_host::figures::Figures;
 use loargwen_host::plant::Plant;
 use loargwen_host::served::Served;

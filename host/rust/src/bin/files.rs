@@ -1,7 +1,7 @@
 //! Runs random and damaged files through a bench program and compares the text with the model's.
 
 use std::io::{self, Write};
-use std::process::{Command, ExitCode, Stdio};
+use std::process::{Command, ExitCode, Output, Stdio};
 use std::time::Instant;
 
 use loargwen_host::args::{self, Args};
@@ -12,7 +12,8 @@ use loargwen_host::{file, files};
 
 const USAGE: &str = "usage: files BENCH SEED COUNT [--case K] [--plant NAME]
   runs COUNT random and damaged files through the program BENCH, one process a file;
-  --case runs that file alone; --plant puts a fault into the model, which must be found";
+  --case runs that file alone; --plant puts a fault into the model, which must be found
+exit status: 0 no difference, 1 a difference, 2 the comparison could not be made";
 
 /// What the command line asks for.
 struct Request {
@@ -28,6 +29,7 @@ fn request() -> Result<Request, String> {
     let count = args.number(2, "COUNT")?;
     let cases = match args.flag_number("case")? {
         Some(number) => number..number + 1,
+        None if count == 0 => return Err("COUNT is 0: no file to compare".to_string()),
         None => 0..count,
     };
     let planted = args.flag("plant").map(|name| format!(" --plant {name}"));
@@ -40,8 +42,14 @@ fn request() -> Result<Request, String> {
     })
 }
 
-/// What the bench prints for a file; a bench that does not end by itself is an error.
-fn bench(program: &str, input: &[u8]) -> io::Result<Vec<u8>> {
+/// Why a comparison ends before its last file.
+enum Stop {
+    Differs(String),
+    CannotRun(String),
+}
+
+/// Runs the bench on a file.
+fn run(program: &str, input: &[u8]) -> io::Result<Output> {
     let mut child = Command::new(program)
         .stdin(Stdio::piped())
         .stdout(Stdio::piped())
@@ -52,11 +60,23 @@ fn bench(program: &str, input: &[u8]) -> io::Result<Vec<u8>> {
             _ => {}
         }
     }
-    let output = child.wait_with_output()?;
-    if output.status.code().is_none() {
-        return Err(io::Error::other(format!("it ended by {}", output.status)));
+    child.wait_with_output()
+}
+
+/// What the bench prints for a file, and how it ended if a signal ended it. A bench ends with 0 whatever the file:
+/// another status is that of a script or an emulator that could not run it.
+fn bench(program: &str, input: &[u8]) -> Result<Vec<u8>, Stop> {
+    let cannot = |why: String| Stop::CannotRun(format!("'{program}' cannot be run: {why}"));
+    let output = run(program, input).map_err(|error| cannot(error.to_string()))?;
+    match output.status.code() {
+        Some(0) => Ok(output.stdout),
+        Some(_) => Err(cannot(output.status.to_string())),
+        None => Ok([
+            &output.stdout[..],
+            format!("{}\n", output.status).as_bytes(),
+        ]
+        .concat()),
     }
-    Ok(output.stdout)
 }
 
 /// The number at the end of the text.
@@ -82,37 +102,43 @@ fn described(input: &[u8], want: &[u8], got: &[u8]) -> String {
 }
 
 /// Compares the bench on one file.
-fn case(request: &Request, number: u64, figures: &mut Figures) -> Result<(), String> {
+fn case(request: &Request, number: u64, figures: &mut Figures) -> Result<(), Stop> {
     let (name, input) = files::file(&mut Random::new(request.seed, number));
     let want = file::run_planted(&input, request.plant);
+    let got = bench(&request.bench, &input)?;
     figures.case(name);
     figures.answer("files", refusal(&want));
-    let seed = request.seed;
-    let place = format!("seed {seed}, file {number} ({name})");
-    match bench(&request.bench, &input) {
-        Ok(got) if got == want => Ok(()),
-        Ok(got) => Err(format!("{place}, {}", described(&input, &want, &got))),
-        Err(error) => Err(format!(
-            "{place}, {error}\n{}",
-            described(&input, &want, b"")
-        )),
+    if got == want {
+        return Ok(());
     }
+    let (seed, planted) = (request.seed, &request.planted);
+    let again = format!("again: files BENCH {seed} 0 --case {number}{planted}");
+    let text = described(&input, &want, &got);
+    Err(Stop::Differs(format!(
+        "seed {seed}, file {number} ({name}), {text}{again}"
+    )))
 }
 
 fn compare_asked(request: Request) -> ExitCode {
     let mut figures = Figures::default();
     let began = Instant::now();
-    for number in request.cases.clone() {
-        if let Err(text) = case(&request, number, &mut figures) {
-            let (seed, planted) = (request.seed, &request.planted);
-            print!("{figures}difference: {text}");
-            println!("again: files BENCH {seed} 0 --case {number}{planted}");
-            return ExitCode::FAILURE;
+    let mut cases = request.cases.clone();
+    let done = cases.try_for_each(|number| case(&request, number, &mut figures));
+    print!("seed {}\n{figures}", request.seed);
+    match done {
+        Ok(()) => {
+            println!("no difference, {:.1} s", began.elapsed().as_secs_f64());
+            ExitCode::SUCCESS
+        }
+        Err(Stop::Differs(text)) => {
+            println!("difference: {text}");
+            ExitCode::FAILURE
+        }
+        Err(Stop::CannotRun(text)) => {
+            eprintln!("{text}");
+            ExitCode::from(2)
         }
     }
-    print!("seed {}\n{figures}", request.seed);
-    println!("no difference, {:.1} s", began.elapsed().as_secs_f64());
-    ExitCode::SUCCESS
 }
 
 fn main() -> ExitCode {

@@ -1,0 +1,2 @@
+-- What is not in the group: a log, copied.
+pub mod LogCopy
