@@ -1,4 +1,5 @@
--- A record of a lent list in a walk by hand: the list is looked into for one statement, which copies the record.
+-- For the walk by hand: a record of the lent list is read. The list is opened for the one statement that copies the
+-- record, and shut again. It rests on `Lending` for what the list owns and on `Locals` for the two locals that take part.
 use mathlib.Core.Path.{_≡_, refl, sym, subst}
 use mathlib.Core.List.{List, [], _∷_}
 use Prim.Native.Nat.{ℕ, zero, suc, _<_}
@@ -22,6 +23,10 @@ use Rattle.step_records.proofs.Step.Laws as S′
 use Rattle.step_records.proofs.Lending.{Shr}
 use Rattle.step_records.proofs.Locals.{Filled, Vacant, fills}
 
+-- the bytes of a record: four u16
+abbrev pub recordBytes : ℕ
+recordBytes = 8
+
 -- record i of a list; past its end no record is ever read
 abbrev pub recordAt : List Step → ℕ → Step
 recordAt ss i = getD ss i (record { kind = 0; a = 0; b = 0; c = 0 })
@@ -34,22 +39,25 @@ pub record-typed : {M : Type 1} {𝓤 : URA M} {H : Heap 𝓤} {A : Atoms 𝓤} 
     → T (hasTy S′.mir (S′.lowered s)) × WT (S′.lowered s)
 record-typed {𝓤 = 𝓤} {H = H} {A = A} W s g = LL.lawful S.the-type S′.the-laws 𝓤 H A W .typed s _ g .0
 
--- a position behind h more entries
+-- a position behind the nine entries that stand before the locals while the list is open: the record's cell and what it
+-- owns, the other records, the open borrow, the borrow, its name, the room, and the two that stand before the list
 abbrev past : ℕ → ℕ → ℕ
 past zero n = n
 past (suc h) n = suc (past h n)
 
+abbrev opened : ℕ → ℕ
+opened = past 9
+
 module _ {M : Type 1} {𝓤 : URA M} {H : Heap 𝓤} {A : Atoms 𝓤} {K : Type 0} {W : Given 𝓤 H A} {Γ : List (Item 𝓤)}
-    {E : Env 𝓤 H} {C : Calls 𝓤 H} {Λ : Loops 𝓤 H} {p : Post 𝓤 H} {κ : Lft} {q : Share} {vs : List Val} {i j : Item 𝓤}
-    {rest : Body} where
+    {E : Env 𝓤 H} {C : Calls 𝓤 H} {Λ : Loops 𝓤 H} {p : Post 𝓤 H} {κ : Lft} {q : Share} {i j : Item 𝓤} {rest : Body} where
   -- local k, at n, points to record e of y, and local l, at m, is given the record
   pub copies-record : (t : K) (y : RefT (List Step)) (e : ℕ) → e < length (y .now) → (n m : ℕ) {k l : ℕ} {u : Share}
       → nth 𝓤 H A n Γ
-      ≡ ‵ (fat u (spotOf 𝓤 H E k .0) (spotOf 𝓤 H E k .1) zero (vptr (y .ptr .0) (placed 8 (y .ptr .1) e)))
+      ≡ ‵ (fat u (spotOf 𝓤 H E k .0) (spotOf 𝓤 H E k .1) zero (vptr (y .ptr .0) (placed recordBytes (y .ptr .1) e)))
       → nth 𝓤 H A m Γ ≡ Vacant H E l → spotOf 𝓤 H E l .0 ≡ S′.mir
-      → (Read (recordAt (y .now) e) → Seq K W (i ∷ j ∷ ‵ (Shr S.the-row κ y vs) ∷ ‵ (flft κ q)
+      → (Read (recordAt (y .now) e) → Seq K W (i ∷ j ∷ ‵ (Shr S.the-row κ y) ∷ ‵ (flft κ q)
       ∷ put 𝓤 H A m (Filled H E l (S′.lowered (recordAt (y .now) e))) Γ) (runs C Λ E rest p))
-      → Seq K W (i ∷ j ∷ ‵ (Shr S.the-row κ y vs) ∷ ‵ (flft κ q) ∷ Γ)
+      → Seq K W (i ∷ j ∷ ‵ (Shr S.the-row κ y) ∷ ‵ (flft κ q) ∷ Γ)
       (runs C Λ E (seq (assign (place l []) (rvOpd (copy (place k (deref S′.mir ∷ []))))) rest) p)
   copies-record t y e lt n m {l = l} points vacant same k =
       let b = y .ptr .0 in
@@ -60,8 +68,8 @@ module _ {M : Type 1} {𝓤 : URA M} {H : Heap 𝓤} {A : Atoms 𝓤} {K : Type 
       (LL.tells S.the-type S′.the-laws) (LL.copy S.the-type S′.the-copy 𝓤 H A W) (y .now) b o (λ u.
       elem-out t S.the-row (Is S.the-row) (shows 𝓤 H A S.the-row) (LL.vals S.the-type S′.the-laws)
       (LL.tells S.the-type S′.the-laws) u (y .now) e _ b o lt (λ g.
-      fills t (past 9 m) vacant
-      (of-opd t (load t (from t (hop t (look t (past 9 n) points) (stop t))) (look-raw t 0 refl)))
+      fills t (opened m) vacant
+      (of-opd t (load t (from t (hop t (look t (opened n) points) (stop t))) (look-raw t 0 refl)))
       (subst (λ τ. T (hasTy τ v) × WT v) (sym same) (record-typed W (recordAt (y .now) e) g)) $
       elem-back t S.the-row u (y .now) e _ (v ∷ []) b o lt $ shuts-slice t tt S.the-row u (y .now) b o $
       move t (2 ∷ 1 ∷ []) $ fjoin t $ move t (2 ∷ 0 ∷ []) $ fjoin t $ move t (2 ∷ 3 ∷ []) $ k g))
