@@ -1,8 +1,10 @@
--- A list of records, one record at a time: how the answer from a record on goes over that record's four words.
+-- A list of records, one record at a time: how the answer from a record on goes over that record's four words, from the
+-- answer of the whole list to the answer past its end. It rests on the definitions and on laws of `group`. The walk by
+-- hand has from here, by the four laws `records-..`, all that its loop knows of answers.
 use mathlib.Core.Path.{_≡_, refl}
 use mathlib.Core.Bool.{true}
 use mathlib.Core.List.{List, [], _∷_}
-use Prim.Native.Nat.{ℕ, _+_, _*_, _%_, _≤_, _<_}
+use Prim.Native.Nat.{ℕ, _+_, _%_, _≤_, _<_}
 use native.Mathlib.Numerals.{add-one}
 use native.Mathlib.Omega.{arith}
 use lib.ListN.{length, getD, drop, drop-of-length-le}
@@ -16,15 +18,11 @@ use Rattle.group.proofs.StepByStep.{run-begins, run-more, run-stop}
 use Rattle.step_records.specs.declared.Step.{Step}
 use Rattle.step_records.specs.Records.{flat}
 
--- four words a record
-pub flat-length : (ss : List Step) → length (flat ss) ≡ 4 * length ss
+-- four words a record: no word is left over
+flat-whole : (ss : List Step) → length (flat ss) % 4 ≡ 0
 unfolding flat
-flat-length [] = refl
-flat-length (s ∷ ss) = omega (arith, flat-length ss)
-
--- so no word is left over
-pub flat-whole : (ss : List Step) → length (flat ss) % 4 ≡ 0
-flat-whole ss = omega (arith, flat-length ss)
+flat-whole [] = refl
+flat-whole (s ∷ ss) = omega (arith, flat-whole ss)
 
 -- the step that a record asks for
 abbrev pub stepBy : Layout → List ℕ → Step → Answer

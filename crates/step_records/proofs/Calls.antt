@@ -1,7 +1,7 @@
 -- For the walk by hand: the calls of `group::fit` and `group::step`, each as one rule. The bank is lent for the call
 -- (`Lending`), the callee's contract is cited, and the bank comes back with what the contract promises of it.
 -- Of the two functions nothing is used but that they meet their contracts.
-use mathlib.Core.Path.{_≡_, refl, ap}
+use mathlib.Core.Path.{_≡_, ap}
 use mathlib.Core.Bool.{Bool}
 use mathlib.Core.List.{List, [], _∷_}
 use Prim.Native.Nat.{ℕ}
@@ -20,20 +20,20 @@ use contract.Monad.{Fun, fact}
 use sound.Laws.{∗emp}
 use sound.WpLaws.{FmC}
 use types.Kit.{Given, Item, Goal, Seq, Step as Rule, Post, step as rule, runs, lands, mean, ‵, raw, _⊛_, some, later}
-use types.Kit.{_$_, move, use1, use2, drop, split, pick, fsplit, fjoin, feqL, await}
+use types.Kit.{_$_, move, use1, use2, drop, split, pick, fsplit, fjoin, await}
 use types.Run.{Opds}
 use denote.RattleType.{RattleType}
 use denote.Laws.{Is, shows}
 use denote.Plain.{uint-makes}
 use denote.Builtin.{u16, bool}
 use denote.Ref.{RefT, at-last}
-use denote.Slice.{slice-vals, finally}
+use denote.Slice.{slice-vals}
 use denote.Steps.{only, nothing, owned, facts, heard}
 use denote.Struct.Laws as LL
 use denote.Triple.Entry.{Args}
 use denote.Triple.Spec.{tripleOf}
 use denote.Triple.Statement.{Contract, Triple}
-use denote.Triple.Clauses.{Lasts, lasts}
+use denote.Triple.Clauses.{lasts}
 use denote.Triple.Call.{calls-at}
 use borrow.Rule.Slice.Relend.{setName}
 use Rattle.group.specs.Layout.{paper}
@@ -58,9 +58,12 @@ pub record Stepped (l : List ℕ) (s : Step) (w : Val) (r : ℕ) (zs : List ℕ)
   pub as-long : length zs ≡ length l
   pub promise : answer r zs ≡ stepBy paper l s
 
--- a number as a parameter
+-- the machine values of a number, and of a record's four numbers as parameters
 abbrev number : ℕ → List Val
 number n = vint w16 n ∷ []
+
+abbrev numbers : Step → List Val × (List Val × (List Val × (List Val × Unit {0})))
+numbers s = (number (s .kind), (number (s .a), (number (s .b), (number (s .c), tt))))
 
 -- the token of a lifetime that is made for one call
 abbrev alive : ℕ → Fml
@@ -108,7 +111,7 @@ module _ {M : Type 1} (𝓤 : URA M) (H : Heap 𝓤) (A : Atoms 𝓤) (mem : Mem
   abbrev pub StepContract : Contract 𝓤
   StepContract = tripleOf 𝓤 H A step.signature (step.spec 𝓤 H A mem run)
 
--- the calls: the bank x, with the machine value v, and its token stand first; the operands are read whatever stands there
+-- the calls: the bank x, with the machine value v, and its token stand first; the operands are read whatever is there
 module _ {M : Type 1} {𝓤 : URA M} {H : Heap 𝓤} {A : Atoms 𝓤} {K : Type 0} {W : Given 𝓤 H A} {Γ : List (Item 𝓤)}
     {E : Env 𝓤 H} {C : Calls 𝓤 H} {Λ : Loops 𝓤 H} {p : Post 𝓤 H} {κ : Lft} {q : Share} {xs : List Operand} {d : Place}
     {rest : Body} (t : K) (fm : FmC 𝓤 H (W .laws) C) (mem : Memory → SProp 𝓤) (run : Routine → Fun 𝓤)
@@ -141,19 +144,12 @@ module _ {M : Type 1} {𝓤 : URA M} {H : Heap 𝓤} {A : Atoms 𝓤} {K : Type 
       move t (1 ∷ []) $ valued t is-v $ nothing t $
       word t (s .c) is-c $ word t (s .b) is-b $ word t (s .a) is-a $ word t (s .kind) is-kind $
       move t (1 ∷ 0 ∷ []) $ fjoin t $ move t (1 ∷ 0 ∷ []) $
-      calls-by t fm (StepContract 𝓤 H A mem run) (
-        (
-          (ν ∷ [], tt),
-          (fullShare, tt),
-          tt,
-          arguments,
-          (v ∷ [], (number (s .kind), (number (s .a), (number (s .b), (number (s .c), tt))))),
-        ),
-        tt,
-      )
-      ν _ u16 (lasts step.ended (ν ∷ [], tt) arguments) (λ r zs. answer r (zs .0) ≡ stepBy paper (x .now) s)
+      calls-by t fm (StepContract 𝓤 H A mem run)
+      (((ν ∷ [], tt), (fullShare, tt), tt, arguments, (v ∷ [], numbers s)), tt) ν _
+      u16 (lasts step.ended (ν ∷ [], tt) arguments) (λ r zs. answer r (zs .0) ≡ stepBy paper (x .now) s)
       met (id⊢ 𝓤 _) (λ w. id⊢ 𝓤 _) (operands _ _) (λ w r zs is e.
       move t (1 ∷ []) $ fsplit t $ fsplit t $
       -- [the bank's last words; that they are as many; nothing of the numbers; the token; what is kept]
       move t (1 ∷ 2 ∷ []) $ drop t $ drop t $ move t (1 ∷ 2 ∷ []) $ mut-back t tt u16 x (zs .0) (λ as-long.
-      k w r (zs .0) (record { value = ap only (is .0); fits = record { fits = is .1 }; as-long = as-long; promise = e }))))
+      k w r (zs .0)
+      (record { value = ap only (is .0); fits = record { fits = is .1 }; as-long = as-long; promise = e }))))

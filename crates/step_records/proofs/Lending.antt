@@ -11,8 +11,8 @@ use mir.Syntax.{erased}
 use base.Fml.{Lft, GName, Share, Fml, fsep, flft, feq}
 use prog.Wp.{Heap}
 use ghost.Atoms.{Atoms}
-use types.Kit.{Given, Item, Goal, Seq, Step, Soaks, step, ‵, _⊛_, some, given, later, _$_, move, use2, use3, drop, split}
-use types.Kit.{pick, learn, fsplit, fjoin, feqI, await}
+use types.Kit.{Given, Item, Goal, Seq, Step, Soaks, step, ‵, _⊛_, some, given, later, _$_, move, use2, use3, drop}
+use types.Kit.{split, pick, learn, fsplit, fjoin, feqI, await}
 use types.Tokens.{lft-new, lft-end}
 use denote.RattleType.{RattleType}
 use denote.Ref.{RefT, at-last}

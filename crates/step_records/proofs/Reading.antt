@@ -1,5 +1,5 @@
 -- For the walk by hand: a record of the lent list is read. The list is opened for the one statement that copies the
--- record, and shut again. It rests on `Lending` for what the list owns and on `Locals` for the two locals that take part.
+-- record, and shut again. It rests on Lending for what the list owns, and on Locals for the two locals that take part.
 use mathlib.Core.Path.{_≡_, refl, sym, subst}
 use mathlib.Core.List.{List, [], _∷_}
 use Prim.Native.Nat.{ℕ, zero, suc, _<_}
@@ -49,7 +49,8 @@ abbrev opened : ℕ → ℕ
 opened = past 9
 
 module _ {M : Type 1} {𝓤 : URA M} {H : Heap 𝓤} {A : Atoms 𝓤} {K : Type 0} {W : Given 𝓤 H A} {Γ : List (Item 𝓤)}
-    {E : Env 𝓤 H} {C : Calls 𝓤 H} {Λ : Loops 𝓤 H} {p : Post 𝓤 H} {κ : Lft} {q : Share} {i j : Item 𝓤} {rest : Body} where
+    {E : Env 𝓤 H} {C : Calls 𝓤 H} {Λ : Loops 𝓤 H} {p : Post 𝓤 H} {κ : Lft} {q : Share} {i j : Item 𝓤}
+    {rest : Body} where
   -- local k, at n, points to record e of y, and local l, at m, is given the record
   pub copies-record : (t : K) (y : RefT (List Step)) (e : ℕ) → e < length (y .now) → (n m : ℕ) {k l : ℕ} {u : Share}
       → nth 𝓤 H A n Γ

@@ -17,8 +17,8 @@ use prog.Routine.{Routine}
 use prog.Wp.{Heap, Calls, Loops, atReturn, returns as returned}
 use ghost.Atoms.{Atoms}
 use contract.Monad.{Fun}
-use types.Kit.{Given, Item, Seq, Post as Owed, post, runs, ‵, ⋆, _$_, _∵_, !, qed, by, move, join, fjoin, suffices, frame}
-use types.Kit.{done}
+use types.Kit.{Given, Item, Seq, Post as Owed, post, runs, ‵, ⋆, _$_, _∵_, !, qed, by, move, join, fjoin, suffices}
+use types.Kit.{frame, done}
 use types.Run.{Opd, look, returns-within}
 use denote.Laws.{Is}
 use denote.Builtin.{u16}
@@ -27,6 +27,7 @@ use denote.Slice.{Room, sliceVal, slice-vals}
 use denote.Signature.{plain}
 use denote.Steps.{nothing, owned}
 use denote.Struct.Laws as LL
+use denote.Triple.Statement.{Contract}
 use denote.Triple.Walked.{says, Stays, stay-slice, stay-none-slice, walkOf, ends-at}
 use denote.Exit.{yes}
 use Rattle.group.specs.declared.lists.Ran.{Ran}
@@ -39,13 +40,13 @@ use Rattle.step_records.proofs.Locals.{Blocks, laid, cells, vacant, Sta
 use Rattle.step_records.proofs.Step as S
 use Rattle.step_records.proofs.run_steps as run-steps
 use Rattle.step_records.proofs.run_steps.Code as code
-use Rattle.step_records.proofs.run_steps.Proof.Slots.{at}
+use Rattle.step_records.proofs.run_steps.Proof.Slots.{result, at, ofBank, ofSteps}
 
 -- at a return the bank is still held, with its last words, and the steps as they were
 abbrev pub stayed : Stays (run-steps.ended .signature .params) (run-steps.ended .kept)
 stayed = (
-  stay-slice (0 ∷ []) tt (plain (λ _. u16)),
-  (stay-none-slice (1 ∷ []) tt (plain (λ _. S.the-row)) yes, tt),
+  stay-slice (ofBank ∷ []) tt (plain (λ _. u16)),
+  (stay-none-slice (ofSteps ∷ []) tt (plain (λ _. S.the-row)) yes, tt),
 )
 
 -- one call: the bank and the steps, each with its lifetime, a share of that lifetime's token, and that it has room
@@ -97,8 +98,11 @@ module _ {M : Type 1} {𝓤 : URA M} (c : Call) where
 
 module _ {M : Type 1} (𝓤 : URA M) (H : Heap 𝓤) (A : Atoms 𝓤) (mem : Memory → SProp 𝓤) (run : Routine → Fun 𝓤)
     (c : Call) where
-  -- all that the call binds
-  abbrev pub bound : walkOf 𝓤 H A run-steps.ended stayed (run-steps.clauses 𝓤 H A mem run) .Ghost
+  -- the triple that the walk shows, all that the call binds in it, and what a return owes
+  abbrev pub Walk : Contract 𝓤
+  Walk = walkOf 𝓤 H A run-steps.ended stayed (run-steps.clauses 𝓤 H A mem run)
+
+  abbrev pub bound : Walk .Ghost
   bound = (
     (
       (c .κ, (c .κ′, tt)),
@@ -110,9 +114,8 @@ module _ {M : Type 1} (𝓤 : URA M) (H : Heap 𝓤) (A : Atoms 𝓤) (mem : Mem
     tt,
   )
 
-  -- what a return owes
   abbrev pub Post : Val → SProp 𝓤
-  Post = walkOf 𝓤 H A run-steps.ended stayed (run-steps.clauses 𝓤 H A mem run) .post bound
+  Post = Walk .post bound
 
   module _ (n r : ℕ) (zs : List ℕ) (n-fits : Fits w64 n) (r-fits : Fits w16 r)
       (as-long : length zs ≡ length (c .bank .now)) (kept : StepsPromise (c .bank .now) (c .steps .now) n r zs) where
@@ -138,7 +141,7 @@ module _ {M : Type 1} (𝓤 : URA M) (H : Heap 𝓤) (A : Atoms 𝓤) (mem : Mem
         → Opd K W (Lent c zs ++ vacant R′.mir (bs .0) Γ) (theLocals bs) y (vint w16 r)
         → Stand (theLocals bs) (vacant R′.mir (bs .0) Γ)
         → Seq K W (Lent c zs ++ vacant R′.mir (bs .0) Γ)
-        (runs C Λ (theLocals bs) (seq (assign (place 0 []) (aggregate (x ∷ y ∷ []))) return) q)
+        (runs C Λ (theLocals bs) (seq (assign (place result []) (aggregate (x ∷ y ∷ []))) return) q)
     answers {W = W} t here x y (empty stand) =
         fills t at.answer refl (both t x y) (tt, (n-fits, (r-fits, tt))) $
         returns-within t Post here (look t at.answer refl) $ freed t (Lent c zs) (full stand) $ by t (exits W)

@@ -24,10 +24,14 @@ pub record Slots : Type 0 where
   pub startForStep : ℕ
   pub bankForStep : ℕ
 
+-- MIR gives back what stands in its first local
+abbrev pub result : ℕ
+result = 0
+
 -- where the locals' cells stand, behind h other entries
 abbrev behind : ℕ → Slots
 behind h = record {
-  answer = slot h 0;  -- what is given back, a `Ran`
+  answer = slot h result;  -- what is given back, a `Ran`
   bank = slot h 1;  -- `bank`
   steps = slot h 2;  -- `steps`
   index = slot h 3;  -- `i`
@@ -56,6 +60,13 @@ alone = behind 0
 -- how many of them keep their values from turn to turn: the first four, up to `i`
 abbrev pub lasting : ℕ
 lasting = 4
+
+-- the signature's lifetimes: that of the bank, and that of the steps
+abbrev pub ofBank : ℕ
+ofBank = 0
+
+abbrev pub ofSteps : ℕ
+ofSteps = 1
 
 -- the whole body
 abbrev pub wholeBody : Body
