@@ -36,7 +36,7 @@ use Rattle.group.proofs.lists.Ran.Laws as R′
 use Rattle.step_records.specs.declared.Step.{Step}
 use Rattle.step_records.specs.Records.{StepsPromise}
 use Rattle.step_records.proofs.Lending.{Mut, Shr, valued}
-use Rattle.step_records.proofs.Locals.{Blocks, laid, cells, vacant, Stand, empty, full, freed, both, fills}
+use Rattle.step_records.proofs.Locals.{Blocks, laid, cells, vacant, filled, Stand, freed, both, fills}
 use Rattle.step_records.proofs.Step as S
 use Rattle.step_records.proofs.run_steps as run-steps
 use Rattle.step_records.proofs.run_steps.Code as code
@@ -139,9 +139,9 @@ module _ {M : Type 1} (𝓤 : URA M) (H : Heap 𝓤) (A : Atoms 𝓤) (mem : Mem
         → post 𝓤 H q returned ≡ atReturn 𝓤 H (theLocals bs) Post returned
         → Opd K W (Lent c zs ++ vacant R′.mir (bs .0) Γ) (theLocals bs) x (vint w64 n)
         → Opd K W (Lent c zs ++ vacant R′.mir (bs .0) Γ) (theLocals bs) y (vint w16 r)
-        → Stand (theLocals bs) (vacant R′.mir (bs .0) Γ)
+        → Stand (theLocals bs) (filled R′.mir (bs .0) (R′.lowered (ran n r)) Γ)
         → Seq K W (Lent c zs ++ vacant R′.mir (bs .0) Γ)
         (runs C Λ (theLocals bs) (seq (assign (place result []) (aggregate (x ∷ y ∷ []))) return) q)
-    answers {W = W} t here x y (empty stand) =
+    answers {W = W} t here x y stand =
         fills t at.answer refl (both t x y) (tt, (n-fits, (r-fits, tt))) $
-        returns-within t Post here (look t at.answer refl) $ freed t (Lent c zs) (full stand) $ by t (exits W)
+        returns-within t Post here (look t at.answer refl) $ freed t (Lent c zs) stand $ by t (exits W)
