@@ -19,7 +19,7 @@ use ghost.Atoms.{Atoms, sem}
 use contract.Monad.{Fun, fact}
 use sound.Laws.{∗emp}
 use sound.WpLaws.{FmC}
-use types.Kit.{Given, Item, Goal, Seq, Step as Rule, Post, step as rule, runs, lands, mean, ‵, raw, _⊛_, some, later}
+use types.Kit.{Given, Item, Goal, Seq, Step as Rule, Post, runs, lands, mean, ‵, raw, _⊛_, some, later}
 use types.Kit.{_$_, move, use1, use2, drop, split, pick, fsplit, fjoin, await}
 use types.Run.{Opds}
 use denote.RattleType.{RattleType}
@@ -47,7 +47,7 @@ use Rattle.step_records.specs.declared.Step.{Step}
 use Rattle.step_records.proofs.Step as S
 use Rattle.step_records.proofs.Step.Laws as S′
 use Rattle.step_records.proofs.ByRecord.{stepBy}
-use Rattle.step_records.proofs.Lending.{Mut, valued, lends-mut, mut-back, lends-shr, shr-back}
+use Rattle.step_records.proofs.Lending.{Mut, alive, valued, lends-mut, mut-back, lends-shr, shr-back}
 use Rattle.step_records.proofs.Reading.{Read}
 
 -- what is known after a step was asked for by the record s, of a bank with the words l: the number r given back as the
@@ -65,10 +65,6 @@ number n = vint w16 n ∷ []
 abbrev numbers : Step → List Val × (List Val × (List Val × (List Val × Unit {0})))
 numbers s = (number (s .kind), (number (s .a), (number (s .b), (number (s .c), tt))))
 
--- the token of a lifetime that is made for one call
-abbrev alive : ℕ → Fml
-alive ν = flft (ν ∷ []) fullShare
-
 -- what a contract says once w is given back: the token is back, w is a result r of the type R, and φ holds of r and of
 -- the parameters' last values
 abbrev Returned : {M : Type 1} {𝓤 : URA M} → ℕ → (R : RattleType) {X : Type 0} → (X → Fml) → (R .Denot → X → Type 0)
@@ -80,7 +76,7 @@ module _ {M : Type 1} {𝓤 : URA M} {H : Heap 𝓤} {A : Atoms 𝓤} {K : Type 
   -- a number is owned for nothing, before the other parameters
   word : {G : Goal 𝓤 H} {P : Fml} (t : K) (n : ℕ) → Is u16 n (number n)
       → Rule K W (‵ (fsep (u16 .own n (number n)) P) ∷ Γ) G (‵ P ∷ Γ) G
-  word t n is = rule (λ s. owned t u16 (Is u16) (uint-makes 𝓤 H A W w16) n (number n) is $ fjoin t $ s)
+  word t n is = record { go = λ s. owned t u16 (Is u16) (uint-makes 𝓤 H A W w16) n (number n) is $ fjoin t $ s }
 
   -- a call of f by its contract c, at y: f takes what P says of its parameters for the lifetime ν, and says φ of its
   -- result, of the type R, and of the last values of its parameters

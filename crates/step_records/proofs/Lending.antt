@@ -40,6 +40,10 @@ module _ {M : Type 1} {𝓤 : URA M} {H : Heap 𝓤} {A : Atoms 𝓤} {K : Type 
       → Step K W (‵ (fsep P Q) ∷ Γ) G (‵ (fsep (fsep (feq X x y) P) Q) ∷ Γ) G
   unvalued t = step (λ s. fsplit t $ fsplit t $ drop t $ fjoin t $ s)
 
+-- the token of a lifetime that is made for one call
+abbrev pub alive : ℕ → Fml
+alive ν = flft (ν ∷ []) fullShare
+
 -- what the holder of the slice x keeps while it is lent on for the lifetime ν, as `&mut` under the name δ, and as `&`
 module _ (R : RattleType) (κ : Lft) (q : Share) (x : RefT (List (R .Denot))) (ν : ℕ) where
   abbrev pub KeptMut : GName → Fml
@@ -52,7 +56,7 @@ module _ (R : RattleType) (κ : Lft) (q : Share) (x : RefT (List (R .Denot))) (�
 module _ {M : Type 1} {𝓤 : URA M} {H : Heap 𝓤} {A : Atoms 𝓤} {K : Type 0} {W : Given 𝓤 H A} {Γ : List (Item 𝓤)}
     {G : Goal 𝓤 H} (t : K) (z : Soaks G) (R : RattleType) {κ : Lft} {q : Share} (x : RefT (List (R .Denot))) where
   pub lends-mut : ((ν : ℕ) (δ : GName) → Seq K W
-      (‵ (flft (ν ∷ []) fullShare) ∷ ‵ (Mut R (ν ∷ []) (setName δ x)) ∷ ‵ (KeptMut R κ q x ν δ) ∷ Γ) G)
+      (‵ (alive ν) ∷ ‵ (Mut R (ν ∷ []) (setName δ x)) ∷ ‵ (KeptMut R κ q x ν δ) ∷ Γ) G)
       → Seq K W (‵ (Mut R κ x) ∷ ‵ (flft κ q) ∷ Γ) G
   lends-mut k =
       lft-new t z (λ ν. move t (1 ∷ 2 ∷ []) $
@@ -62,14 +66,14 @@ module _ {M : Type 1} {𝓤 : URA M} {H : Heap 𝓤} {A : Atoms 𝓤} {K : Type 
 
   pub mut-back : {ν : ℕ} {δ : GName} (zs : List (R .Denot))
       → (length zs ≡ length (x .now) → Seq K W (‵ (Mut R κ (at-last x zs)) ∷ ‵ (flft κ q) ∷ Γ) G)
-      → Seq K W (‵ (flft (ν ∷ []) fullShare) ∷ ‵ (KeptMut R κ q x ν δ) ∷ ‵ (finally R δ zs) ∷ Γ) G
+      → Seq K W (‵ (alive ν) ∷ ‵ (KeptMut R κ q x ν δ) ∷ ‵ (finally R δ zs) ∷ Γ) G
   mut-back {ν} {δ} zs k =
       lft-end t z $ use3 W (later (given (length zs ≡ length (x .now)) (‵ (Mut R κ (at-last x zs)) ⊛ ‵ (flft κ q))))
       (sl-relent-backˡ 𝓤 H A W R κ q (ν ∷ []) (x .ptr .0) (x .ptr .1) (x .name) δ (x .now) zs) $ await t z $
       learn t (λ as-long. split t $ k as-long)
 
   pub lends-shr : ((ν : ℕ) (δ : GName) → Seq K W
-      (‵ (flft (ν ∷ []) fullShare) ∷ ‵ (Shr R (ν ∷ []) (setName δ x)) ∷ ‵ (KeptShr R κ q x ν) ∷ Γ) G)
+      (‵ (alive ν) ∷ ‵ (Shr R (ν ∷ []) (setName δ x)) ∷ ‵ (KeptShr R κ q x ν) ∷ Γ) G)
       → Seq K W (‵ (Mut R κ x) ∷ ‵ (flft κ q) ∷ Γ) G
   lends-shr k =
       lft-new t z (λ ν. move t (1 ∷ 2 ∷ []) $
@@ -78,7 +82,7 @@ module _ {M : Type 1} {𝓤 : URA M} {H : Heap 𝓤} {A : Atoms 𝓤} {K : Type 
       pick t (λ δ. split t $ move t (2 ∷ []) $ k ν δ))
 
   pub shr-back : {ν : ℕ}
-      → Step K W (‵ (Mut R κ x) ∷ ‵ (flft κ q) ∷ Γ) G (‵ (flft (ν ∷ []) fullShare) ∷ ‵ (KeptShr R κ q x ν) ∷ Γ) G
+      → Step K W (‵ (Mut R κ x) ∷ ‵ (flft κ q) ∷ Γ) G (‵ (alive ν) ∷ ‵ (KeptShr R κ q x ν) ∷ Γ) G
   shr-back {ν} = step (λ s.
       lft-end t z $ use2 W (later (‵ (Mut R κ x) ⊛ ‵ (flft κ q)))
       (sl-reshare-back 𝓤 H A W R κ q (ν ∷ []) (x .ptr .0) (x .ptr .1) (x .name) (x .now)) $ await t z $ split t $ s)

@@ -1,9 +1,9 @@
 -- The proofs of step_records, in reading order. run_steps takes a slice of structs, which the borrow checker does not
 -- cover, so it is walked by hand: through its MIR, statement by statement.
 -- A walk is a chain `rule ! .. $ rule ! .. $ ..`, read from the top. What it has in hand is a list of entries: cells of
--- memory, loans, tokens of lifetimes. A rule takes one statement, or only turns entries into others: `move ! (2 ∷ 0 ∷ [])`
--- brings entries 2 and 0 to the front, and a comment in brackets says what then stands there. `!`, each rule's first
--- argument, says nothing; `refl` shows that the entry at the position named is the one that the code means.
+-- memory, loans, tokens of lifetimes. A rule takes one statement, or only turns entries into others: `move ! (2 ∷ 0 ∷
+-- [])` brings entries 2 and 0 to the front, and a comment in brackets says what then stands there. `!`, each rule's
+-- first argument, says nothing; `refl` shows that the entry at the position named is the one that the code means.
 --
 -- how the answer from a record on goes over that record: all that the walk's loop knows of answers
 pub mod ByRecord

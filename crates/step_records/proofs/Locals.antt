@@ -73,11 +73,11 @@ module _ {M : Type 1} {𝓤 : URA M} where
 
   -- the cell of local k, with a value and with room for one
   module _ (H : Heap 𝓤) (E : Env 𝓤 H) (k : ℕ) where
-    abbrev pub Filled : Val → Item 𝓤
-    Filled v = ‵ (fat fullShare (spotOf 𝓤 H E k .0) (spotOf 𝓤 H E k .1) zero v)
+    abbrev pub FullCell : Val → Item 𝓤
+    FullCell v = ‵ (fat fullShare (spotOf 𝓤 H E k .0) (spotOf 𝓤 H E k .1) zero v)
 
-    abbrev pub Vacant : Item 𝓤
-    Vacant = ‵ (froom (spotOf 𝓤 H E k .0) (spotOf 𝓤 H E k .1) zero)
+    abbrev pub EmptyCell : Item 𝓤
+    EmptyCell = ‵ (froom (spotOf 𝓤 H E k .0) (spotOf 𝓤 H E k .1) zero)
 
     -- a value for it
     abbrev pub Apt : Val → Type 0
@@ -175,20 +175,20 @@ module _ {M : Type 1} {𝓤 : URA M} {H : Heap 𝓤} {A : Atoms 𝓤} {K : Type 
     module _ {C : Calls 𝓤 H} {Λ : Loops 𝓤 H} {p : Post 𝓤 H} where
       -- local k, which stands at n, is given a first value, another value, or what a call gave back
       pub fills : K → (n : ℕ) {k : ℕ} {r : RightSide} {rest : Body} {v : Val}
-          → nth 𝓤 H A n Γ ≡ Vacant H E k → Rv K W Γ E r v
-          → Apt H E k v → Step K W (put 𝓤 H A n (Filled H E k v) Γ) (runs C Λ E rest p) Γ
+          → nth 𝓤 H A n Γ ≡ EmptyCell H E k → Rv K W Γ E r v
+          → Apt H E k v → Step K W (put 𝓤 H A n (FullCell H E k v) Γ) (runs C Λ E rest p) Γ
           (runs C Λ E (seq (assign (place k []) r) rest) p)
       fills t n e r wt = assigns t r (from t (stop t)) (init t n e wt)
 
       pub refills : K → (n : ℕ) {k : ℕ} {r : RightSide} {rest : Body} {u v : Val}
-          → nth 𝓤 H A n Γ ≡ Filled H E k u → Rv K W Γ E r v
-          → Apt H E k v → Step K W (put 𝓤 H A n (Filled H E k v) Γ) (runs C Λ E rest p) Γ
+          → nth 𝓤 H A n Γ ≡ FullCell H E k u → Rv K W Γ E r v
+          → Apt H E k v → Step K W (put 𝓤 H A n (FullCell H E k v) Γ) (runs C Λ E rest p) Γ
           (runs C Λ E (seq (assign (place k []) r) rest) p)
       refills t n e r wt = assigns t r (from t (stop t)) (store t n e wt)
 
       pub receives : K → (n : ℕ) {k : ℕ} {rest : Body} {w v : Val}
-          → nth 𝓤 H A n Γ ≡ Vacant H E k → w ≡ v
-          → Apt H E k v → Step K W (put 𝓤 H A n (Filled H E k v) Γ) (runs C Λ E rest p) Γ
+          → nth 𝓤 H A n Γ ≡ EmptyCell H E k → w ≡ v
+          → Apt H E k v → Step K W (put 𝓤 H A n (FullCell H E k v) Γ) (runs C Λ E rest p) Γ
           (lands C Λ E (place k []) w rest p)
       receives t n {k} {rest} e same wt = step (λ s.
           subst (λ u. Seq K W Γ (lands C Λ E (place k []) u rest p)) (sym same)

@@ -21,7 +21,7 @@ use Rattle.step_records.specs.declared.Step.{Step}
 use Rattle.step_records.proofs.Step as S
 use Rattle.step_records.proofs.Step.Laws as S′
 use Rattle.step_records.proofs.Lending.{Shr}
-use Rattle.step_records.proofs.Locals.{Filled, Vacant, fills}
+use Rattle.step_records.proofs.Locals.{FullCell, EmptyCell, fills}
 
 -- the bytes of a record: four u16
 abbrev pub recordBytes : ℕ
@@ -41,12 +41,8 @@ record-typed {𝓤 = 𝓤} {H = H} {A = A} W s g = LL.lawful S.the-type S′.the
 
 -- a position behind the nine entries that stand before the locals while the list is open: the record's cell and what it
 -- owns, the other records, the open borrow, the borrow, its name, the room, and the two that stand before the list
-abbrev past : ℕ → ℕ → ℕ
-past zero n = n
-past (suc h) n = suc (past h n)
-
 abbrev opened : ℕ → ℕ
-opened = past 9
+opened n = suc (suc (suc (suc (suc (suc (suc (suc (suc n))))))))
 
 module _ {M : Type 1} {𝓤 : URA M} {H : Heap 𝓤} {A : Atoms 𝓤} {K : Type 0} {W : Given 𝓤 H A} {Γ : List (Item 𝓤)}
     {E : Env 𝓤 H} {C : Calls 𝓤 H} {Λ : Loops 𝓤 H} {p : Post 𝓤 H} {κ : Lft} {q : Share} {i j : Item 𝓤}
@@ -55,9 +51,9 @@ module _ {M : Type 1} {𝓤 : URA M} {H : Heap 𝓤} {A : Atoms 𝓤} {K : Type 
   pub copies-record : (t : K) (y : RefT (List Step)) (e : ℕ) → e < length (y .now) → (n m : ℕ) {k l : ℕ} {u : Share}
       → nth 𝓤 H A n Γ
       ≡ ‵ (fat u (spotOf 𝓤 H E k .0) (spotOf 𝓤 H E k .1) zero (vptr (y .ptr .0) (e * recordBytes + y .ptr .1)))
-      → nth 𝓤 H A m Γ ≡ Vacant H E l → spotOf 𝓤 H E l .0 ≡ S′.mir
+      → nth 𝓤 H A m Γ ≡ EmptyCell H E l → spotOf 𝓤 H E l .0 ≡ S′.mir
       → (Read (recordAt (y .now) e) → Seq K W (i ∷ j ∷ ‵ (Shr S.the-row κ y) ∷ ‵ (flft κ q)
-      ∷ put 𝓤 H A m (Filled H E l (S′.lowered (recordAt (y .now) e))) Γ) (runs C Λ E rest p))
+      ∷ put 𝓤 H A m (FullCell H E l (S′.lowered (recordAt (y .now) e))) Γ) (runs C Λ E rest p))
       → Seq K W (i ∷ j ∷ ‵ (Shr S.the-row κ y) ∷ ‵ (flft κ q) ∷ Γ)
       (runs C Λ E (seq (assign (place l []) (rvOpd (copy (place k (deref S′.mir ∷ []))))) rest) p)
   copies-record t y e lt n m {k} {u = u} points vacant same go =

@@ -30,36 +30,36 @@ pub steps-determined : (b : List ℕ) (ss : List Step) {n k r s : ℕ} {c d : Li
     → StepsPromise b ss k s d → (n ≡ k) × (r ≡ s) × (c ≡ d)
 steps-determined b ss e f = run-determined b (flat ss) e f
 
-abbrev Whole : ℕ → Type 0
-Whole r = r ≡ 13 → ⊥
+abbrev NotRagged : ℕ → Type 0
+NotRagged r = r ≡ 13 → ⊥
 
-either : (t : Bool) (o p : Outcome) → Whole (o .refusal) → Whole (p .refusal) → Whole (cond t o p .refusal)
+either : (t : Bool) (o p : Outcome) → NotRagged (o .refusal) → NotRagged (p .refusal) → NotRagged (cond t o p .refusal)
 either true o p h k = h
 either false o p h k = k
 
 module _ (L : Layout) where
-  step-whole : (b : List ℕ) (kind x y z : ℕ) → Whole (refusalOf L b kind x y z)
+  step-not-ragged : (b : List ℕ) (kind x y z : ℕ) → NotRagged (refusalOf L b kind x y z)
   unfolding refusalOf
-  step-whole b kind x y z = go (fit L b) (Steps.asked kind x y z)
+  step-not-ragged b kind x y z = go (fit L b) (Steps.asked kind x y z)
     where
-      go : (t : Bool) (o : Option Steps.Step) → Whole (cond t (askedRefusal L b o) 1)
+      go : (t : Bool) (o : Option Steps.Step) → NotRagged (cond t (askedRefusal L b o) 1)
       go true (some s) = Rules.never-ragged (rules L (words L b) s) (Rules.rules-numbered L b s)
       go true none = omega arith
       go false o = omega arith
 
-  run-whole : (n : ℕ) (b : List ℕ) (ss : List Step) → Whole (runFrom L n b (flat ss) .refusal)
+  run-not-ragged : (n : ℕ) (b : List ℕ) (ss : List Step) → NotRagged (runFrom L n b (flat ss) .refusal)
   unfolding flat runFrom
-  run-whole n b [] = omega arith
-  run-whole n b (s ∷ ss) =
+  run-not-ragged n b [] = omega arith
+  run-not-ragged n b (s ∷ ss) =
       let r = refusalOf L b (s .kind) (s .a) (s .b) (s .c) in
       let after = stepOf L b (s .kind) (s .a) (s .b) (s .c) .bank in
-      either (eqb r 0) (runFrom L (n + 1) after (flat ss)) (outcome n r b) (run-whole (n + 1) after ss)
-      (step-whole b (s .kind) (s .a) (s .b) (s .c))
+      either (eqb r 0) (runFrom L (n + 1) after (flat ss)) (outcome n r b) (run-not-ragged (n + 1) after ss)
+      (step-not-ragged b (s .kind) (s .a) (s .b) (s .c))
 
 -- 13 does not arise: a record is whole, and no step is refused by that number
 pub never-ragged : (b : List ℕ) (ss : List Step) {n r : ℕ} {c : List ℕ} → StepsPromise b ss n r c → r ≡ 13 → ⊥
-never-ragged b ss {r = r} e q = whole (fit paper b) refl (sym (ap (λ o. o .refusal) e) ∙ q)
+never-ragged b ss {r = r} e q = by-fitness (fit paper b) refl (sym (ap (λ o. o .refusal) e) ∙ q)
   where
-    whole : (t : Bool) → fit paper b ≡ t → Whole (runOf paper b (flat ss) .refusal)
-    whole true f = rw (records-begin paper b ss f) (run-whole paper 0 b ss)
-    whole false f = rw (run-unfit paper b (flat ss) f) (omega arith)
+    by-fitness : (t : Bool) → fit paper b ≡ t → NotRagged (runOf paper b (flat ss) .refusal)
+    by-fitness true f = rw (records-begin paper b ss f) (run-not-ragged paper 0 b ss)
+    by-fitness false f = rw (run-unfit paper b (flat ss) f) (omega arith)

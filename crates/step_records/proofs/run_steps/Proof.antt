@@ -44,9 +44,10 @@ use Rattle.step_records.proofs.run_steps as run-steps
 use Rattle.step_records.proofs.run_steps.Key.{name as #step-records·run-steps}
 use Rattle.step_records.proofs.run_steps.Statement.{statement}
 use Rattle.step_records.proofs.run_steps.Code as code
-use Rattle.step_records.proofs.run_steps.Proof.Slots.{at, lasting, ofBank, ofSteps, wholeBody}
-use Rattle.step_records.proofs.run_steps.Proof.Frame.{stayed, Call, theLocals, bankValue, stepsValue, Lent}
-use Rattle.step_records.proofs.run_steps.Proof.Frame.{AtEntry, Walk, bound, Post, answers}
+use Rattle.step_records.proofs.run_steps.Proof.Slots.{at, lasting, ofBank, ofSteps}
+use Rattle.step_records.proofs.run_steps.Proof.Frame.{stayed, Call, words-fit, steps-fit, theLocals, bankValue}
+use Rattle.step_records.proofs.run_steps.Proof.Frame.{stepsValue, values, Lent, AtEntry, WalkTriple, bound}
+use Rattle.step_records.proofs.run_steps.Proof.Frame.{Owes, answers}
 use Rattle.step_records.proofs.run_steps.Proof.Turn.{Less, less-wf, begun, Inv, turn}
 mod Slots
 mod Frame
@@ -58,14 +59,14 @@ module _ {M : Type 1} (𝓤 : URA M) (H : Heap 𝓤) (A : Atoms 𝓤) (W : Given
   module _ (c : Call) where
     -- the bank is asked whether it is fit, and the loop begins where it is
     begins : (bs : Blocks code.Mir.locals) → ent 𝓤 (⋆ 𝓤 H A (AtEntry c bs))
-        (Wp 𝓤 H (𝓣 .C) (𝓣 .Λ) (theLocals bs) wholeBody (atReturn 𝓤 H (theLocals bs) (Post 𝓤 H A mem run c)))
+        (Wp 𝓤 H (𝓣 .C) (𝓣 .Λ) (theLocals bs) (code.function .body) (atReturn 𝓤 H (theLocals bs) (Owes 𝓤 H A mem run c)))
     begins bs =
         qed W (AtEntry c bs) ∵
-        exec ! (𝓣 .C) (𝓣 .Λ) (theLocals bs) wholeBody (atRet (theLocals bs) (Post 𝓤 H A mem run c)) $
+        exec ! (𝓣 .C) (𝓣 .Λ) (theLocals bs) (code.function .body) (atRet (theLocals bs) (Owes 𝓤 H A mem run c)) $
         -- if !group::fit(bank)
         fills ! at.startForFit refl (start-of ! at.bank refl refl refl) (tt, tt) $
         fills ! at.bankForFit refl (both ! (var ! at.startForFit refl) (part-of ! at.bank refl refl refl))
-        (tt, (tt, (record { fits = c .bank-room .0 }, tt))) $
+        (tt, (tt, (words-fit c, tt))) $
         asks-fit ! (fmOf 𝓤 H (W .laws) 𝓣) mem run (c .bank) refl fit-meets
         (λ _ _. and-then ! (var ! at.bankForFit refl) (no-more !)) (λ w t e f.
         receives ! at.isFit refl e (tt, tt) $
@@ -82,24 +83,24 @@ module _ {M : Type 1} (𝓤 : URA M) (H : Heap 𝓤) (A : Atoms 𝓤) (W : Given
         clears ! lasting (Lent c (c .bank .now)) (theLocals bs) (search standing depth 20) $
         -- while ..
         first ! $ blocks ! $
-        loops ! 𝓣 (Less (c .bank .now) (c .steps .now)) (less-wf (c .bank .now) (c .steps .now))
-        (Inv 𝓤 H A W mem run 𝓣 c bs) (λ s. by ! (turn 𝓤 H A W mem run 𝓣 c bs step-meets s))
-        (begun (c .bank .now) (c .steps .now) (sym f ∙ fit))))
+        loops ! 𝓣 (Less c) (less-wf c)
+        (Inv c bs) (λ s. by ! (turn 𝓤 H A W mem run 𝓣 c bs step-meets s))
+        (begun c (sym f ∙ fit))))
 
     -- what was lent is brought in by its types, and the locals are laid out behind it
-    walk : ent 𝓤 (Walk 𝓤 H A mem run c .pre (bound 𝓤 H A mem run c))
-        (WpFn 𝓤 H (𝓣 .C) (𝓣 .Λ) code.function (bankValue c ∷ stepsValue c ∷ []) (Post 𝓤 H A mem run c))
+    walk : ent 𝓤 (WalkTriple 𝓤 H A mem run c .pre (bound 𝓤 H A mem run c))
+        (WpFn 𝓤 H (𝓣 .C) (𝓣 .Λ) code.function (bankValue c ∷ stepsValue c ∷ []) (Owes 𝓤 H A mem run c))
     walk =
         qed W (((‵ (flft (c .κ) (c .q)) ⊛ (‵ (flft (c .κ′) (c .q′)) ⊛ ‵ ftrue))
         ⊛ ‵ (owns (MutSlice erased (c .κ) u16 ∷ ShrSlice erased (c .κ′) S.the-row ∷ []) (c .bank, (c .steps, tt))
-        (bankValue c ∷ [], (stepsValue c ∷ [], tt)))) ∷ ‵ ftrue ∷ []) ∵
-        enter ! (𝓣 .C) (𝓣 .Λ) code.function (bankValue c ∷ stepsValue c ∷ []) (Post 𝓤 H A mem run c) $
+        (values c))) ∷ ‵ ftrue ∷ []) ∵
+        enter ! (𝓣 .C) (𝓣 .Λ) code.function (bankValue c ∷ stepsValue c ∷ []) (Owes 𝓤 H A mem run c) $
         split ! $ split ! $ move ! (1 ∷ []) $ split ! $ keep ! (3 ∷ 2 ∷ 0 ∷ []) $
         -- [both parameters; the bank's token; the steps' token]
         fsplit ! $ unvalued ! $ move ! (1 ∷ []) $ fsplit ! $ unvalued ! $ keep ! (2 ∷ 3 ∷ 0 ∷ 4 ∷ []) $
         allocated ! code.Mir.locals (λ bs. params1 ! $
-        pass1 ! (init ! at.bank refl (tt, (tt, (record { fits = c .bank-room .0 }, tt)))) $
-        pass1 ! (init ! at.steps refl (tt, (tt, (record { fits = c .steps-room .0 }, tt)))) $ pass0 ! $
+        pass1 ! (init ! at.bank refl (tt, (tt, (words-fit c, tt)))) $
+        pass1 ! (init ! at.steps refl (tt, (tt, (steps-fit c, tt)))) $ pass0 ! $
         by ! (begins bs))
 
   walks : Walks 𝓤 H A run-steps.ended stayed (WpFn 𝓤 H (𝓣 .C) (𝓣 .Λ) code.function)

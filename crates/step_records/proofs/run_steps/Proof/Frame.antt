@@ -14,10 +14,10 @@ use base.Logic.{SProp, ent}
 use base.Fml.{Lft, Share, flft}
 use prog.Memory.{Memory}
 use prog.Routine.{Routine}
-use prog.Wp.{Heap, Calls, Loops, atReturn, returns as returned}
+use prog.Wp.{Heap, Calls, Loops, atReturn, returns as byReturn}
 use ghost.Atoms.{Atoms}
 use contract.Monad.{Fun}
-use types.Kit.{Given, Item, Seq, Post as Owed, post, runs, ‵, ⋆, _$_, _∵_, !, qed, by, move, join, fjoin, suffices}
+use types.Kit.{Given, Item, Seq, Post as Ending, post, runs, ‵, ⋆, _$_, _∵_, !, qed, by, move, join, fjoin, suffices}
 use types.Kit.{frame, done}
 use types.Run.{Opd, look, returns-within}
 use denote.Laws.{Is}
@@ -60,6 +60,13 @@ pub record Call : Type 0 where
   pub q′ : Share
   pub steps-room : Room S.the-row (length (steps .now))
 
+-- so how many words and how many steps there are is each a usize
+abbrev pub words-fit : (c : Call) → Fits w64 (length (c .bank .now))
+words-fit c = record { fits = c .bank-room .0 }
+
+abbrev pub steps-fit : (c : Call) → Fits w64 (length (c .steps .now))
+steps-fit c = record { fits = c .steps-room .0 }
+
 abbrev pub ran : ℕ → ℕ → Ran
 ran n r = record { accepted = n; refusal = r }
 
@@ -73,6 +80,9 @@ bankValue c = sliceVal (c .bank .ptr) (length (c .bank .now))
 
 abbrev pub stepsValue : Call → Val
 stepsValue c = sliceVal (c .steps .ptr) (length (c .steps .now))
+
+abbrev pub values : Call → List Val × (List Val × Unit {0})
+values c = (bankValue c ∷ [], (stepsValue c ∷ [], tt))
 
 pub still : (c : Call) (l : List ℕ) → length l ≡ length (c .bank .now)
     → bankValue c ∷ [] ≡ slice-vals (at-last (c .bank) l)
@@ -99,27 +109,18 @@ module _ {M : Type 1} {𝓤 : URA M} (c : Call) where
 module _ {M : Type 1} (𝓤 : URA M) (H : Heap 𝓤) (A : Atoms 𝓤) (mem : Memory → SProp 𝓤) (run : Routine → Fun 𝓤)
     (c : Call) where
   -- the triple that the walk shows, all that the call binds in it, and what a return owes
-  abbrev pub Walk : Contract 𝓤
-  Walk = walkOf 𝓤 H A run-steps.ended stayed (run-steps.clauses 𝓤 H A mem run)
+  abbrev pub WalkTriple : Contract 𝓤
+  WalkTriple = walkOf 𝓤 H A run-steps.ended stayed (run-steps.clauses 𝓤 H A mem run)
 
-  abbrev pub bound : Walk .Ghost
-  bound = (
-    (
-      (c .κ, (c .κ′, tt)),
-      (c .q, (c .q′, tt)),
-      tt,
-      (c .bank, (c .steps, tt)),
-      (bankValue c ∷ [], (stepsValue c ∷ [], tt)),
-    ),
-    tt,
-  )
+  abbrev pub bound : WalkTriple .Ghost
+  bound = (((c .κ, (c .κ′, tt)), (c .q, (c .q′, tt)), tt, (c .bank, (c .steps, tt)), values c), tt)
 
-  abbrev pub Post : Val → SProp 𝓤
-  Post = Walk .post bound
+  abbrev pub Owes : Val → SProp 𝓤
+  Owes = WalkTriple .post bound
 
   module _ (n r : ℕ) (zs : List ℕ) (n-fits : Fits w64 n) (r-fits : Fits w16 r)
       (as-long : length zs ≡ length (c .bank .now)) (kept : StepsPromise (c .bank .now) (c .steps .now) n r zs) where
-    exits : Given 𝓤 H A → ent 𝓤 (⋆ 𝓤 H A (Lent c zs)) (Post (R′.lowered (ran n r)))
+    exits : Given 𝓤 H A → ent 𝓤 (⋆ 𝓤 H A (Lent c zs)) (Owes (R′.lowered (ran n r)))
     exits W =
         qed W (Lent c zs) ∵
         suffices ! _ (ends-at 𝓤 H A run-steps.ended stayed (run-steps.clauses 𝓤 H A mem run) W bound
@@ -135,8 +136,8 @@ module _ {M : Type 1} (𝓤 : URA M) (H : Heap 𝓤) (A : Atoms 𝓤) (mem : Mem
 
     -- `Ran { accepted: x, refusal: y }` is given back, where x is n and y is r: an answer that the promise allows
     pub answers : {K : Type 0} {W : Given 𝓤 H A} (t : K) {bs : Blocks code.Mir.locals} {C : Calls 𝓤 H} {Λ : Loops 𝓤 H}
-        {q : Owed 𝓤 H} {x y : Operand} {Γ : List (Item 𝓤)}
-        → post 𝓤 H q returned ≡ atReturn 𝓤 H (theLocals bs) Post returned
+        {q : Ending 𝓤 H} {x y : Operand} {Γ : List (Item 𝓤)}
+        → post 𝓤 H q byReturn ≡ atReturn 𝓤 H (theLocals bs) Owes byReturn
         → Opd K W (Lent c zs ++ vacant R′.mir (bs .0) Γ) (theLocals bs) x (vint w64 n)
         → Opd K W (Lent c zs ++ vacant R′.mir (bs .0) Γ) (theLocals bs) y (vint w16 r)
         → Stand (theLocals bs) (filled R′.mir (bs .0) (R′.lowered (ran n r)) Γ)
@@ -144,4 +145,4 @@ module _ {M : Type 1} (𝓤 : URA M) (H : Heap 𝓤) (A : Atoms 𝓤) (mem : Mem
         (runs C Λ (theLocals bs) (seq (assign (place result []) (aggregate (x ∷ y ∷ []))) return) q)
     answers {W = W} t here x y stand =
         fills t at.answer refl (both t x y) (tt, (n-fits, (r-fits, tt))) $
-        returns-within t Post here (look t at.answer refl) $ freed t (Lent c zs) stand $ by t (exits W)
+        returns-within t Owes here (look t at.answer refl) $ freed t (Lent c zs) stand $ by t (exits W)

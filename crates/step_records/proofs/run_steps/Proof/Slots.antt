@@ -68,10 +68,6 @@ ofBank = 0
 abbrev pub ofSteps : ℕ
 ofSteps = 1
 
--- the whole body
-abbrev pub wholeBody : Body
-wholeBody = code.Mir.t-1
-
 -- the body of `while i < steps.len()`
 abbrev pub oneTurn : Body
 oneTurn = code.Mir.turn-1
