@@ -40,6 +40,10 @@ laid (local τ h ∷ ls) bs = (τ, bs .0) ∷ laid ls (bs .1)
 abbrev pub slot : ℕ → ℕ → ℕ
 slot h k = h + 2 * k
 
+-- the field of a slice that points to its elements; the other, field 1, is how many they are
+abbrev toElements : ℕ
+toElements = 0
+
 module _ {M : Type 1} {𝓤 : URA M} where
   -- a local with room for a value, or with a value, before other entries
   abbrev pub vacant : Ty → ℕ → List (Item 𝓤) → List (Item 𝓤)
@@ -62,7 +66,7 @@ module _ {M : Type 1} {𝓤 : URA M} where
     full : {τ : Ty} {b : ℕ} {v : Val} {E : List (Ty × ℕ)} {Γ : List (Item 𝓤)} → Stand E Γ
         → Stand ((τ, b) ∷ E) (filled τ b v Γ)
 
-  pub ruleset standing = (all, empty, full)
+  pub ruleset standing = (all, empty, full)  -- for `search`, to be given a depth above the number of locals
 
   -- the same context where only the first n keep their values
   abbrev pub kept : ℕ → {E : List (Ty × ℕ)} {Γ : List (Item 𝓤)} → Stand E Γ → List (Item 𝓤)
@@ -160,12 +164,12 @@ module _ {M : Type 1} {𝓤 : URA M} {H : Heap 𝓤} {A : Atoms 𝓤} {K : Type 
         → Opd K W Γ E (copy (place k (field j ∷ []))) (getV vs j)
     part-of t n {j} e f g = load t (from t (fld t f (stop t))) (reads-field t n j e g)
 
-    -- where the elements lie of the slice in local k, whose field 0 points to them
+    -- where the elements of the slice in local k lie
     pub start-of : K → (n : ℕ) {k : ℕ} {q : Share} {ν : Sym} {τs : Tys} {b o : ℕ} {vs : Vals} {τ ρ : Ty} {d : ℕ}
         → nth 𝓤 H A n Γ ≡ ‵ (fat q (tyStruct ν τs) (spotOf 𝓤 H E k .1) zero (vstruct (vcons (vptr b o) vs)))
-        → fieldOf (spotOf 𝓤 H E k .0) 0 ≡ some (τ, d) → fieldAt zero τs 0 ≡ some (τ, d)
-        → Rv K W Γ E (addrOf (place k (field 0 ∷ deref ρ ∷ []))) (vptr b o)
-    start-of t n e f g = addr t (from t (fld t f (hop t (reads-field t n 0 e g) (stop t))))
+        → fieldOf (spotOf 𝓤 H E k .0) toElements ≡ some (τ, d) → fieldAt zero τs toElements ≡ some (τ, d)
+        → Rv K W Γ E (addrOf (place k (field toElements ∷ deref ρ ∷ []))) (vptr b o)
+    start-of t n e f g = addr t (from t (fld t f (hop t (reads-field t n toElements e g) (stop t))))
 
     -- a struct of two fields
     pub both : K → {x y : Operand} {v w : Val} → Opd K W Γ E x v → Opd K W Γ E y w

@@ -45,31 +45,32 @@ abbrev opened : ℕ → ℕ
 opened n = suc (suc (suc (suc (suc (suc (suc (suc (suc n))))))))
 
 module _ {M : Type 1} {𝓤 : URA M} {H : Heap 𝓤} {A : Atoms 𝓤} {K : Type 0} {W : Given 𝓤 H A} {Γ : List (Item 𝓤)}
-    {E : Env 𝓤 H} {C : Calls 𝓤 H} {Λ : Loops 𝓤 H} {p : Post 𝓤 H} {κ : Lft} {q : Share} {i j : Item 𝓤}
-    {rest : Body} where
-  -- local k, which stands at n, points to record e of y, and local l, at m, is given the record
-  pub copies-record : (t : K) (y : RefT (List Step)) (e : ℕ) → e < length (y .now) → (n m : ℕ) {k l : ℕ} {u : Share}
-      → nth 𝓤 H A n Γ
-      ≡ ‵ (fat u (spotOf 𝓤 H E k .0) (spotOf 𝓤 H E k .1) zero (vptr (y .ptr .0) (e * recordBytes + y .ptr .1)))
-      → nth 𝓤 H A m Γ ≡ EmptyCell H E l → spotOf 𝓤 H E l .0 ≡ S′.mir
-      → (Read (recordAt (y .now) e) → Seq K W (i ∷ j ∷ ‵ (Shr S.the-row κ y) ∷ ‵ (flft κ q)
-      ∷ put 𝓤 H A m (FullCell H E l (S′.lowered (recordAt (y .now) e))) Γ) (runs C Λ E rest p))
-      → Seq K W (i ∷ j ∷ ‵ (Shr S.the-row κ y) ∷ ‵ (flft κ q) ∷ Γ)
-      (runs C Λ E (seq (assign (place l []) (rvOpd (copy (place k (deref S′.mir ∷ []))))) rest) p)
-  copies-record t y e lt n m {k} {u = u} points vacant same go =
-      let b = y .ptr .0 in
-      let o = y .ptr .1 in
-      let v : Val = S′.lowered (recordAt (y .now) e) in
-      let there : ℕ → Item 𝓤 = λ a. ‵ (fat u (spotOf 𝓤 H E k .0) (spotOf 𝓤 H E k .1) zero (vptr b a)) in
+    {E : Env 𝓤 H} {C : Calls 𝓤 H} {Λ : Loops 𝓤 H} {p : Post 𝓤 H} {κ : Lft} {q u : Share} {h h′ : Item 𝓤} {rest : Body}
+    {pointer element : ℕ} where
+  -- a local that stands at n points to record i of the list, and another, which stands at m, is given the record
+  pub copies-record : (t : K) (list : RefT (List Step)) (i : ℕ) → i < length (list .now) → (n m : ℕ)
+      → nth 𝓤 H A n Γ ≡ ‵ (fat u (spotOf 𝓤 H E pointer .0) (spotOf 𝓤 H E pointer .1) zero
+      (vptr (list .ptr .0) (i * recordBytes + list .ptr .1)))
+      → nth 𝓤 H A m Γ ≡ EmptyCell H E element → spotOf 𝓤 H E element .0 ≡ S′.mir
+      → (Read (recordAt (list .now) i) → Seq K W (h ∷ h′ ∷ ‵ (Shr S.the-row κ list) ∷ ‵ (flft κ q)
+      ∷ put 𝓤 H A m (FullCell H E element (S′.lowered (recordAt (list .now) i))) Γ) (runs C Λ E rest p))
+      → Seq K W (h ∷ h′ ∷ ‵ (Shr S.the-row κ list) ∷ ‵ (flft κ q) ∷ Γ)
+      (runs C Λ E (seq (assign (place element []) (rvOpd (copy (place pointer (deref S′.mir ∷ []))))) rest) p)
+  copies-record t list i within n m points vacant same k =
+      let b = list .ptr .0 in
+      let o = list .ptr .1 in
+      let v : Val = S′.lowered (recordAt (list .now) i) in
+      let to : ℕ → Item 𝓤 = λ a. ‵ (fat u (spotOf 𝓤 H E pointer .0) (spotOf 𝓤 H E pointer .1) zero (vptr b a)) in
       move t (2 ∷ []) $ fsplit t $ move t (1 ∷ []) $ fsplit t $ move t (1 ∷ 5 ∷ []) $
+      -- [the borrow; its token; its name; the room; the two entries that stood first]
       looks-slice t tt S.the-row (Is S.the-row) (shows 𝓤 H A S.the-row) (LL.vals S.the-type S′.the-laws)
-      (LL.tells S.the-type S′.the-laws) (LL.copy S.the-type S′.the-copy 𝓤 H A W) (y .now) b o (λ w.
+      (LL.tells S.the-type S′.the-laws) (LL.copy S.the-type S′.the-copy 𝓤 H A W) (list .now) b o (λ w.
       elem-out t S.the-row (Is S.the-row) (shows 𝓤 H A S.the-row) (LL.vals S.the-type S′.the-laws)
-      (LL.tells S.the-type S′.the-laws) w (y .now) e _ b o lt (λ read.
-      fills t (opened m) vacant
-      (of-opd t (load t
-      (from t (hop t (look t (opened n) (points ∙ ap there (sym (place-is recordBytes o e)))) (stop t)))
+      (LL.tells S.the-type S′.the-laws) w (list .now) i _ b o within (λ read.
+      fills t (opened m) vacant (of-opd t (load t
+      (from t (hop t (look t (opened n) (points ∙ ap to (sym (place-is recordBytes o i)))) (stop t)))
       (look-raw t 0 refl)))
-      (subst (λ τ. T (hasTy τ v) × WT v) (sym same) (record-typed W (recordAt (y .now) e) read)) $
-      elem-back t S.the-row w (y .now) e _ (v ∷ []) b o lt $ shuts-slice t tt S.the-row w (y .now) b o $
-      move t (2 ∷ 1 ∷ []) $ fjoin t $ move t (2 ∷ 0 ∷ []) $ fjoin t $ move t (2 ∷ 3 ∷ []) $ go read))
+      (subst (λ τ. T (hasTy τ v) × WT v) (sym same) (record-typed W (recordAt (list .now) i) read)) $
+      elem-back t S.the-row w (list .now) i _ (v ∷ []) b o within $ shuts-slice t tt S.the-row w (list .now) b o $
+      -- [its token; the borrow; its name; the room; the two entries that stood first]
+      move t (2 ∷ 1 ∷ []) $ fjoin t $ move t (2 ∷ 0 ∷ []) $ fjoin t $ move t (2 ∷ 3 ∷ []) $ k read))

@@ -26,7 +26,7 @@ use denote.Signature.{plain}
 use denote.Triple.Spec.{Meets, tripleOf}
 use denote.Triple.Statement.{Triple}
 use denote.Triple.Table.{entered, cited}
-use denote.Triple.Walked.{Walks, walked, goes-slice, goes-none-slice, walk-meets}
+use denote.Triple.Walked.{walked, goes-slice, goes-none-slice, walk-meets}
 use denote.Exit.{yes}
 use Rattle.group.specs.Layout.{paper}
 use Rattle.group.proofs.StepByStep.{run-unfit}
@@ -68,27 +68,25 @@ module _ {M : Type 1} (𝓤 : URA M) (H : Heap 𝓤) (A : Atoms 𝓤) (W : Given
         fills ! at.bankForFit refl (both ! (var ! at.startForFit refl) (part-of ! at.bank refl refl refl))
         (tt, (tt, (words-fit c, tt))) $
         asks-fit ! (fmOf 𝓤 H (W .laws) 𝓣) mem run (c .bank) refl fit-meets
-        (λ _ _. and-then ! (var ! at.bankForFit refl) (no-more !)) (λ w t e f.
-        receives ! at.isFit refl e (tt, tt) $
+        (λ _ _. and-then ! (var ! at.bankForFit refl) (no-more !)) (λ w y value promise.
+        receives ! at.isFit refl value (tt, tt) $
         fills ! at.unfit refl (un ! (var ! at.isFit refl) tt) (tt, tt) $
-        if-then ! (var ! at.unfit refl) (not-true t) (not-false t)
+        if-then ! (var ! at.unfit refl) (not-true y) (not-false y)
         -- return Ran { accepted: 0, refusal: 1 };
         (λ unfit.
-        answers 𝓤 H A mem run c 0 1 (c .bank .now) (record { fits = lit< tt }) (record { fits = lit< tt }) refl
-        (sym (run-unfit paper (c .bank .now) (flat (c .steps .now)) (sym f ∙ unfit))) !
-        refl (lit ! tt) (lit ! tt) (search standing depth 20))
+        answers 𝓤 H A mem run c ! 0 1 (c .bank .now)
+        (sym (run-unfit paper (c .bank .now) (flat (c .steps .now)) (sym promise ∙ unfit))) refl
+        (record { fits = lit< tt }) (record { fits = lit< tt }) (lit ! tt) (lit ! tt) (search standing depth 20) refl)
         -- let mut i: usize = 0;
         (λ fit.
         fills ! at.index refl (of-opd ! (lit ! tt)) (tt, record { fits = lit< tt }) $
         clears ! lasting (Lent c (c .bank .now)) (theLocals bs) (search standing depth 20) $
         -- while ..
-        first ! $ blocks ! $
-        loops ! 𝓣 (Less c) (less-wf c)
-        (Inv c bs) (λ s. by ! (turn 𝓤 H A W mem run 𝓣 c bs step-meets s))
-        (begun c (sym f ∙ fit))))
+        first ! $ blocks ! $ loops ! 𝓣 (Less c) (less-wf c) (Inv c bs)
+        (λ s. by ! (turn 𝓤 H A W mem run 𝓣 c bs step-meets s)) (begun c (sym promise ∙ fit))))
 
     -- what was lent is brought in by its types, and the locals are laid out behind it
-    walk : ent 𝓤 (WalkTriple 𝓤 H A mem run c .pre (bound 𝓤 H A mem run c))
+    walk : ent 𝓤 (WalkTriple 𝓤 H A mem run .pre (bound 𝓤 H A mem run c))
         (WpFn 𝓤 H (𝓣 .C) (𝓣 .Λ) code.function (bankValue c ∷ stepsValue c ∷ []) (Owes 𝓤 H A mem run c))
     walk =
         qed W (((‵ (flft (c .κ) (c .q)) ⊛ (‵ (flft (c .κ′) (c .q′)) ⊛ ‵ ftrue))
@@ -103,8 +101,7 @@ module _ {M : Type 1} (𝓤 : URA M) (H : Heap 𝓤) (A : Atoms 𝓤) (W : Given
         pass1 ! (init ! at.steps refl (tt, (tt, (steps-fit c, tt)))) $ pass0 ! $
         by ! (begins bs))
 
-  walks : Walks 𝓤 H A run-steps.ended stayed (WpFn 𝓤 H (𝓣 .C) (𝓣 .Λ) code.function)
-      (run-steps.clauses 𝓤 H A mem run)
+  walks : Triple 𝓤 (WpFn 𝓤 H (𝓣 .C) (𝓣 .Λ) code.function) (WalkTriple 𝓤 H A mem run)
   walks =
       walked 𝓤 H A run-steps.ended stayed (run-steps.clauses 𝓤 H A mem run) (WpFn 𝓤 H (𝓣 .C) (𝓣 .Λ) code.function)
       (λ κs. (slice-vals, (slice-vals, tt)))

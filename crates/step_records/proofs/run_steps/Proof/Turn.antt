@@ -141,9 +141,8 @@ module _ {M : Type 1} (𝓤 : URA M) (H : Heap 𝓤) (A : Atoms 𝓤) (W : Given
       if-then ! (var ! at.test refl) (λ y. eqb-false r 0 (not-true _ y)) (λ y. eqb-true r 0 (not-false _ y))
       -- return Ran { accepted: i, refusal: r };
       (λ refused.
-      answers 𝓤 H A mem run c (s .i) r zs (i-fits c s) (stepped .fits) (stepped .as-long ∙ s .as-long)
-      (stopped c s more r zs stepped refused) !
-      refl (var ! at.index refl) (var ! at.refusal refl) (search standing depth 20))
+      answers 𝓤 H A mem run c ! (s .i) r zs (stopped c s more r zs stepped refused) (stepped .as-long ∙ s .as-long)
+      (i-fits c s) (stepped .fits) (var ! at.index refl) (var ! at.refusal refl) (search standing depth 20) refl)
       -- i += 1;
       (λ accepted.
       assigns-last ! (bin ! (var ! at.index refl) (lit ! tt) (next-fits c s more)) (from ! (stop !))
@@ -153,6 +152,5 @@ module _ {M : Type 1} (𝓤 : URA M) (H : Heap 𝓤) (A : Atoms 𝓤) (W : Given
       -- Ran { accepted: i, refusal: 0 }
       (λ none-left.
       exec ! (𝓣 .C) (𝓣 .Λ) (theLocals bs) afterLoop (atRet (theLocals bs) (Owes 𝓤 H A mem run c)) $
-      answers 𝓤 H A mem run c (s .i) 0 (s .l) (i-fits c s) (record { fits = lit< tt }) (s .as-long)
-      (ended c s none-left) !
-      refl (var ! at.index refl) (lit ! tt) (search standing depth 20))
+      answers 𝓤 H A mem run c ! (s .i) 0 (s .l) (ended c s none-left) (s .as-long)
+      (i-fits c s) (record { fits = lit< tt }) (var ! at.index refl) (lit ! tt) (search standing depth 20) refl)
