@@ -67,9 +67,9 @@ numbers s = (number (s .kind), (number (s .a), (number (s .b), (number (s .c), t
 
 -- what a contract says once w is given back: the token is back, w is a result r of the type R, and φ holds of r and of
 -- the parameters' last values
-abbrev Returned : {M : Type 1} {𝓤 : URA M} → ℕ → (R : RattleType) {X : Type 0} → (X → Fml) → (R .Denot → X → Type 0)
+abbrev GivenBack : {M : Type 1} {𝓤 : URA M} → ℕ → (R : RattleType) {X : Type 0} → (X → Fml) → (R .Denot → X → Type 0)
     → Val → Item 𝓤
-Returned {𝓤 = 𝓤} ν R {X} last φ w = later (some (λ (r : R .Denot).
+GivenBack {𝓤 = 𝓤} ν R {X} last φ w = later (some (λ (r : R .Denot).
     ((‵ (alive ν) ⊛ ‵ ftrue) ⊛ ‵ (R .own r (w ∷ []))) ⊛ some (λ (x : X). ‵ (last x) ⊛ raw (fact 𝓤 (φ r x)))))
 
 module _ {M : Type 1} {𝓤 : URA M} {H : Heap 𝓤} {A : Atoms 𝓤} {K : Type 0} {W : Given 𝓤 H A} {Γ : List (Item 𝓤)} where
@@ -85,7 +85,7 @@ module _ {M : Type 1} {𝓤 : URA M} {H : Heap 𝓤} {A : Atoms 𝓤} {K : Type 
       (R : RattleType) {X : Type 0} (last : X → Fml) (φ : R .Denot → X → Type 0) where
     calls-by : Triple 𝓤 (C f) c
         → ent 𝓤 (sep 𝓤 (sep 𝓤 (sep 𝓤 (sem 𝓤 H A (alive ν)) (emp 𝓤)) (sem 𝓤 H A P)) (emp 𝓤)) (c .pre y)
-        → ((w : Val) → ent 𝓤 (c .post y w) (mean 𝓤 H A (Returned ν R last φ w)))
+        → ((w : Val) → ent 𝓤 (c .post y w) (mean 𝓤 H A (GivenBack ν R last φ w)))
         → Opds K W (raw (c .pre y) ∷ Γ) E xs (c .args y)
         → ((w : Val) (r : R .Denot) (x : X) → Is R r (w ∷ []) → φ r x
         → Seq K W (‵ (alive ν) ∷ ‵ (last x) ∷ Γ) (lands C Λ E d w rest p))
@@ -93,7 +93,7 @@ module _ {M : Type 1} {𝓤 : URA M} {H : Heap 𝓤} {A : Atoms 𝓤} {K : Type 
     calls-by met asks says operands k =
         use2 W (raw (c .pre y))
         (via 𝓤 _ (via 𝓤 _ (monoL 𝓤 (sem 𝓤 H A P) (∗emp 𝓤 (sem 𝓤 H A (alive ν)))) (∗emp 𝓤 _)) asks) $
-        calls-at t fm c met y operands (λ w. use1 W (Returned ν R last φ w) (says w) $ await t tt $
+        calls-at t fm c met y operands (λ w. use1 W (GivenBack ν R last φ w) (says w) $ await t tt $
         pick t (λ r. split t $ move t (1 ∷ []) $ pick t (λ x. split t $ move t (1 ∷ []) $ heard t (φ r x) (λ e.
         -- [the last values; the token and the result]
         move t (1 ∷ []) $ split t $ move t (1 ∷ []) $ facts t R (Is R) (shows 𝓤 H A R) r (w ∷ []) (λ is.

@@ -2,6 +2,7 @@
 -- them, its cell, with a value or with room for one, and that it dies. The locals are all laid out where the function
 -- begins; they are read and filled by where their cells stand (`slot`); at a return they are all given back.
 -- `refl`, which most rules are handed, shows that the entry at that position is the cell that the code names.
+-- It rests on the logic's own rules alone (types.Run, types.Part).
 use mathlib.Core.Path.{_≡_, sym, subst}
 use mathlib.Core.Bool.{Bool, true, false}
 use mathlib.Core.List.{List, [], _∷_, _++_, append-assoc}
