@@ -1,8 +1,10 @@
--- A list of records, one record at a time: how the answer from a record on goes over that record's four words.
+-- A list of records, one record at a time: how the answer from a record on goes over that record's four words, from the
+-- answer of the whole list to the answer past its end. It rests on the definitions and on laws of `group`. The walk by
+-- hand has from here, by the four laws `records-..`, all that its loop knows of answers.
 use mathlib.Core.Path.{_≡_, refl}
 use mathlib.Core.Bool.{true}
 use mathlib.Core.List.{List, [], _∷_}
-use Prim.Native.Nat.{ℕ, _+_, _*_, _%_, _≤_, _<_}
+use Prim.Native.Nat.{ℕ, _+_, _%_, _≤_, _<_}
 use native.Mathlib.Numerals.{add-one}
 use native.Mathlib.Omega.{arith}
 use lib.ListN.{length, getD, drop, drop-of-length-le}
@@ -16,44 +18,34 @@ use Rattle.group.proofs.StepByStep.{run-begins, run-more, run-stop}
 use Rattle.step_records.specs.declared.Step.{Step}
 use Rattle.step_records.specs.Records.{flat}
 
--- four words a record
-pub flat-length : (ss : List Step) → length (flat ss) ≡ 4 * length ss
+-- four words a record: no word is left over
+flat-whole : (ss : List Step) → length (flat ss) % 4 ≡ 0
 unfolding flat
-flat-length [] = refl
-flat-length (s ∷ ss) = omega (arith, flat-length ss)
-
--- so no word is left over
-pub flat-whole : (ss : List Step) → length (flat ss) % 4 ≡ 0
-flat-whole ss = omega (arith, flat-length ss)
+flat-whole [] = refl
+flat-whole (s ∷ ss) = omega (arith, flat-whole ss)
 
 -- the step that a record asks for
 abbrev pub stepBy : Layout → List ℕ → Step → Answer
 stepBy L b s = stepOf L b (s .kind) (s .a) (s .b) (s .c)
 
 -- the records from the i-th on, as words
-next-record : (ss : List Step) (i : ℕ) (d : Step) → i < length ss
-    → flat (drop i ss)
-    ≡ getD ss i d .kind ∷ getD ss i d .a ∷ getD ss i d .b ∷ getD ss i d .c ∷ flat (drop (i + 1) ss)
+abbrev fromHere : List Step → ℕ → Step → List ℕ
+fromHere ss i d = getD ss i d .kind ∷ getD ss i d .a ∷ getD ss i d .b ∷ getD ss i d .c ∷ flat (drop (i + 1) ss)
+
+next-record : (ss : List Step) (i : ℕ) (d : Step) → i < length ss → flat (drop i ss) ≡ fromHere ss i d
 unfolding flat
 next-record ss i d h = rw (add-one, drop-cons ss i d)
 
+-- the step of record i gave back r and left the words b′: its refusal ends the list, or the next record is at hand
 module _ (L : Layout) (b : List ℕ) (ss : List Step) (i : ℕ) (d : Step) (r : ℕ) (b′ : List ℕ) (h : i < length ss)
     (p : answer r b′ ≡ stepBy L b (getD ss i d)) where
-  abbrev rest : List ℕ
-  rest = flat (drop (i + 1) ss)
-
-  abbrev here : List ℕ
-  here = getD ss i d .kind ∷ getD ss i d .a ∷ getD ss i d .b ∷ getD ss i d .c ∷ rest
-
-  enough : 0 + 4 ≤ length here
-  enough = omega arith
-
   pub records-stop : (r ≡ 0 → ⊥) → outcome i r b′ ≡ runFrom L i b (flat (drop i ss))
-  records-stop z = rw (next-record ss i d) (run-stop L i b here 0 r b′ enough p z)
+  records-stop z = rw (next-record ss i d) (run-stop L i b (fromHere ss i d) 0 r b′ (omega arith) p z)
 
   pub records-more : r ≡ 0 → runFrom L i b (flat (drop i ss)) ≡ runFrom L (i + 1) b′ (flat (drop (i + 1) ss))
-  records-more z = rw (next-record ss i d) (run-more L i b here 0 r b′ enough p z)
+  records-more z = rw (next-record ss i d) (run-more L i b (fromHere ss i d) 0 r b′ (omega arith) p z)
 
+-- where no record is left, and where none is applied yet
 module _ (L : Layout) (b : List ℕ) (ss : List Step) where
   pub records-end : (i : ℕ) → length ss ≤ i → runFrom L i b (flat (drop i ss)) ≡ outcome i 0 b
   unfolding flat runFrom
