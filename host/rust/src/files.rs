@@ -49,10 +49,12 @@ pub const KINDS: [&str; 22] = [
     "two damages",
 ];
 
-/// A random file and what it is.
-pub fn file(random: &mut Random) -> (&'static str, Vec<u8>) {
-    if random.below(1000) < 4 {
-        return long_file(random);
+/// A random file and what it is; the first two are always one of the longest length and one over it.
+pub fn file(random: &mut Random, number: u64) -> (&'static str, Vec<u8>) {
+    match (number, random.below(1000)) {
+        (0, _) | (_, 0 | 1) => return ("full", full(random)),
+        (1, _) | (_, 2 | 3) => return ("too long", too_long(random)),
+        _ => {}
     }
     let name = random.pick(&KINDS);
     let (mut records, group) = whole(random);
@@ -62,15 +64,12 @@ pub fn file(random: &mut Random) -> (&'static str, Vec<u8>) {
     (name, damaged(random, name, records))
 }
 
-/// A file of the longest length, or just over it.
-fn long_file(random: &mut Random) -> (&'static str, Vec<u8>) {
+/// More bytes than a file may have.
+fn too_long(random: &mut Random) -> Vec<u8> {
     let mut bytes = full(random);
-    if random.chance(50) {
-        return ("full", bytes);
-    }
     let over = random.pick(&[1, 2, 6, 100, 4_464, 70_000]);
     bytes.resize(LONGEST + over, 0);
-    ("too long", bytes)
+    bytes
 }
 
 /// Exactly 65,536 bytes: an opening, two broadcasts, then settlings of a step or none.

@@ -208,7 +208,7 @@ fn sixteen_sets_print_as_four_capital_digits() {
 fn both_versions_print_the_same_for_random_files() {
     let mut ends = [0; 16];
     for case in 0..6_000 {
-        let (name, input) = files::file(&mut Random::new(21, case));
+        let (name, input) = files::file(&mut Random::new(21, case), case);
         let text = run(&input);
         assert_eq!(text, words_file::run(&input), "file {case} ({name})");
         let text = String::from_utf8(text).expect("text");

@@ -103,7 +103,7 @@ fn described(input: &[u8], want: &[u8], got: &[u8]) -> String {
 
 /// Compares the bench on one file.
 fn case(request: &Request, number: u64, figures: &mut Figures) -> Result<(), Stop> {
-    let (name, input) = files::file(&mut Random::new(request.seed, number));
+    let (name, input) = files::file(&mut Random::new(request.seed, number), number);
     let want = file::run_planted(&input, request.plant);
     let got = bench(&request.bench, &input)?;
     figures.case(name);
