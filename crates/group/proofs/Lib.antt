@@ -12,6 +12,7 @@ pub mod Fresh
 pub mod Views
 pub mod WritesIn
 pub mod Names
+pub mod EveryWord
 pub mod Kept
 pub mod StepByStep
 pub mod Asking
