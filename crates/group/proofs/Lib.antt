@@ -13,6 +13,8 @@ pub mod Views
 pub mod WritesIn
 pub mod Names
 pub mod EveryWord
+pub mod Whole
+pub mod Broadcast
 pub mod Kept
 pub mod StepByStep
 pub mod Asking

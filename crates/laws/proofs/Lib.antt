@@ -11,7 +11,6 @@ pub mod End
 pub mod Sums
 pub mod Weights
 pub mod Work
-pub mod Whole
 pub mod Visible
 pub mod Bridge
 pub mod Written
@@ -20,7 +19,6 @@ pub mod Allowing
 pub mod Opened
 pub mod Lifting
 pub mod Untouched
-pub mod Broadcast
 pub mod Entries
 pub mod Listing
 pub mod Reached
