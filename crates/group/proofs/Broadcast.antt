@@ -9,6 +9,7 @@ use Rattle.group.specs.Layout.{Layout, words, fields, inRecord, FieldIn}
 use Rattle.group.specs.Step.{broadcast}
 use Rattle.group.specs.Writes.{fresh}
 use Rattle.group.specs.Promises.{Allowed, after}
+use Rattle.group.specs.Above.{RecordRewritten}
 use Rattle.group.proofs.Reading.{later-append}
 use Rattle.group.proofs.Names.{word-after}
 use Rattle.group.proofs.Whole.{record-word}
@@ -29,3 +30,6 @@ module _ (L : Layout) (b : List ℕ) (who s v : ℕ) (a : Allowed L b (broadcast
       let g : Field → ℕ = fresh (words L b N) who s v in
       word-after L b (broadcast who s v) a count tt
       ∙ later-append (inRecord c (map (λ f. f ≔ g f) (fields L))) _ count _
+
+pub record-rewritten : (L : Layout) → RecordRewritten L
+record-rewritten L = new-word L

@@ -20,4 +20,7 @@ pub mod StepByStep
 pub mod Asking
 pub mod Above
 pub mod Unread
+pub mod JustAbove
+pub mod SetWords
+pub mod NeverAbove
 pub mod Determined
