@@ -1,5 +1,6 @@
 -- Where each word stands. A layout is two numbers; every address follows from them as regions laid one after another.
 use Prim.Native.Nat.{ℕ, zero, suc, _+_, _*_, _<_}
+use mathlib.Core.Path.{_≡_}
 use mathlib.Core.List.{List, [], _∷_, _++_, map}
 use lib.ListN.{getD, set}
 use Rattle.group.specs.Place.{Field, Place, Words, Record, Write, _≔_}
@@ -123,6 +124,12 @@ PlaceIn L (view i) = i < L .controllers
 PlaceIn L (logLength i) = i < L .controllers
 PlaceIn L (log i k) = (i < L .controllers) × (k < L .messages)
 PlaceIn L (message m f) = (m < L .messages) × FieldIn L f
+
+-- they are the words of a bank: each of them is a word, every word is one of them, and no two are one word
+pub record PlacesAreWords (L : Layout) : Type 0 where
+  pub inside : (p : Place) → PlaceIn L p → address L p < size L
+  pub every : (a : ℕ) → a < size L → (p : Place) × PlaceIn L p × (address L p ≡ a)
+  pub one : (p q : Place) → PlaceIn L p → PlaceIn L q → address L p ≡ address L q → p ≡ q
 
 -- ---- reading and writing by name, where `at` says the place of each name
 

@@ -82,8 +82,9 @@ fn of_send(bank: &[u16], from: u16, to: u16, m: u16) -> u16
     if r != 0 {
         return r;
     }
+    let up = bank[Bank::UP];
     let unsent = bank[record_at(m) + (Bank::UNSENT + from as usize)];
-    moves(bank[Bank::UP], from, unsent, to)
+    moves(up, from, unsent, to)
 }
 
 fn of_receive(bank: &[u16], i: u16, from: u16, m: u16) -> u16
@@ -94,8 +95,9 @@ fn of_receive(bank: &[u16], i: u16, from: u16, m: u16) -> u16
     if r != 0 {
         return r;
     }
+    let up = bank[Bank::UP];
     let in_flight = bank[record_at(m) + (Bank::IN_FLIGHT + i as usize)];
-    moves(bank[Bank::UP], i, in_flight, from)
+    moves(up, i, in_flight, from)
 }
 
 // The delivery test of a mode, among n controllers: whom one of them takes to be up, and from whom it has the message.

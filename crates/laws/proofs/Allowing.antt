@@ -1,24 +1,50 @@
 -- What a bank allows its sets allow, and what they allow of settling the bank allows where a log has room.
-use mathlib.Core.Path.{_≡_, sym, ap, ap₂, _∙_}
-use mathlib.Core.Bool.{true, not}
+use mathlib.Core.Path.{_≡_, refl, sym, ap, ap₂, _∙_}
+use mathlib.Core.Bool.{Bool, true, false, not, _&&_}
 use mathlib.Core.List.{List, [], _∷_, _++_}
 use Prim.Native.Nat.{ℕ, _<_}
 use native.Mathlib.Omega.{arith}
-use borrow.Author.Tests.{lt-ltb, ltb-true, eq-eqb, eqb-true, not-true}
+use borrow.Author.Tests.{lt-ltb, ltb-true, eq-eqb, ne-eqb, eqb-true, not-true}
 use Rattle.sets.specs.Set.{has, within, countBelow}
+use Rattle.sets.proofs.Counts.{every-at, every-is}
 use Rattle.group.specs.Place.{Field, Place, N, mode, count, up, view, logLength, message}
 use Rattle.group.specs.Place.{held, delivered, acked, unsent, inFlight}
 use Rattle.group.specs.Layout.{Layout, words, PlaceIn, FieldIn}
-use Rattle.group.specs.Fit.{Fit}
+use Rattle.group.specs.Fit.{Fit, allAck}
 use Rattle.group.specs.Step.{Step, broadcast, send, receive, deliver, crash, detect, lose}
 use Rattle.group.specs.Refusals.{_else_, Holds, copy, isUp, enough}
 use Rattle.group.specs.Promises.{Allowed}
 use Rattle.group.proofs.Bounds.{controller-below, message-below, copy-below}
 use Rattle.laws.proofs.Onward.{SettlingKind, sends, receives, delivers, detects}
 use Rattle.laws.proofs.Sets.{enoughOf, Named, Ok}
+use Rattle.laws.proofs.Enough.{by-mode, implies, all-trusted, all-enough, more-than-half, most-enough}
 use Rattle.laws.proofs.Visible.{visible, seen-in}
 use Rattle.laws.proofs.Bridge.{recordSets, sets}
 use Rattle.laws.proofs.Steps.{setsOf}
+
+-- the group's delivery test of two words is the test of the sets that they are
+one-test : (k n x y : ℕ) → enoughOf k n (has x) (has y) ≡ enough k n x y
+unfolding enough within countBelow
+one-test k n x y = same-truth _ _ passes passed
+  where
+    same-truth : (s t : Bool) → (s ≡ true → t ≡ true) → (t ≡ true → s ≡ true) → s ≡ t
+    same-truth true t f g = sym (f refl)
+    same-truth false true f g = g refl
+    same-truth false false f g = refl
+
+    passes : enoughOf k n (has x) (has y) ≡ true → enough k n x y ≡ true
+    passes h =
+        by-mode k _
+        (λ e. rw (eq-eqb k allAck e)
+        (every-is _ n (λ i l. implies (has x i) (has y i) (all-trusted k n (has x) (has y) e h i l))))
+        (λ d. rw (ne-eqb k allAck d) (lt-ltb n _ (more-than-half k n (has x) (has y) d h)))
+
+    passed : enough k n x y ≡ true → enoughOf k n (has x) (has y) ≡ true
+    passed h =
+        by-mode k _
+        (λ e. all-enough k n (has x) (has y) e
+        (λ i l u. rw u at (every-at _ n (rw (eq-eqb k allAck e) at h) i l)))
+        (λ d. most-enough k n (has x) (has y) d (ltb-true n _ (rw (ne-eqb k allAck d) at h)))
 
 module _ (L : Layout) (b : List ℕ) where
   -- a set word of a place that the layout has
@@ -63,9 +89,9 @@ module _ (L : Layout) (b : List ℕ) where
       → enoughOf k n (λ a. has (visible L (words L b) (view i)) a) (λ a. has (visible L (words L b) (message m
       (acked i))) a)
       ≡ enough k n (words L b (view i)) (words L b (message m (acked i)))
-  unfolding enoughOf enough within countBelow
   same-enough k n i m hi hm =
-      ap₂ (λ x y. enough k n x y) (seen-in L (words L b) (view i) hi) (seen-in L (words L b) (message m (acked i))
+      one-test k n _ _
+      ∙ ap₂ (λ x y. enough k n x y) (seen-in L (words L b) (view i) hi) (seen-in L (words L b) (message m (acked i))
       (hm, hi))
 
   pub allowed-ok : (s : Step) → Allowed L b s → Ok (L .messages) (setsOf L b) s
@@ -100,10 +126,11 @@ module _ (L : Layout) (b : List ℕ) where
       )
   allowed-ok (lose from to m) a =
       let f = a .free in
-      let c : Holds (copy (words L b) from to m) = (f .0, (f .1 .0, (f .1 .1 .0, tt))) in (
+      let c : Holds (copy (words L b) from to m) = (f .0, (f .1 .0, (f .1 .1 .0, tt))) in
+      let down : (setsOf L b .up from && setsOf L b .up to) ≡ false = not-true _ (f .1 .1 .1 .1 .0) in (
         named from to m c,
         same-copy (a .sound) from to m from (inFlight to) c (λ x y. y) ∙ f .1 .1 .1 .0,
-        not-true _ (f .1 .1 .1 .1 .0),
+        (cc),
       )
 
   -- a deliver needs room in the log besides

@@ -2,6 +2,7 @@
 use mathlib.Core.Path.{_≡_, refl}
 use mathlib.Core.Bool.{true, false}
 use Prim.Native.Nat.{ℕ, _*_, _<_}
+use native.Mathlib.Omega.{arith}
 use Rattle.sets.specs.Set.{howMany}
 use Rattle.group.specs.Fit.{allAck, majority}
 use Rattle.group.specs.Step.{send, receive, deliver, detect}
@@ -20,7 +21,8 @@ module _ (s : Sets) (h : Inv s) (m i : ℕ) (d : s .message m .delivered i ≡ t
       all-trusted (s .mode) (s .N) (s .up) (s .message m .held) e (h .sound m .spread i d) j (h .inside j u) u
 
   pub held-by-most : s .mode ≡ majority → s .N < 2 * howMany (s .message m .held) (s .N)
-  held-by-most e = more-than-half (s .mode) (s .N) (s .up) (s .message m .held) e (h .sound m .spread i d)
+  held-by-most e =
+      more-than-half (s .mode) (s .N) (s .up) (s .message m .held) (λ q. omega arith) (h .sound m .spread i d)
 
 -- ---- at the end
 

@@ -31,7 +31,7 @@ use Rattle.laws.proofs.Allowing.{Roomy, ok-allowed}
 use Rattle.laws.proofs.Lifting.{lift-settling, reached-inv}
 use Rattle.laws.proofs.Reached.{fit-run, opened-word}
 use Rattle.laws.proofs.Logs.{logs-hold-broadcasts, delivered-room}
-use Rattle.laws.proofs.Extent.{same-members}
+use Rattle.sets.proofs.Members.{same-members}
 use Rattle.laws.proofs.Past.{N-kept, mode-kept, stamp-kept, value-kept, log-run}
 use Rattle.laws.proofs.Swap.{same-sets}
 

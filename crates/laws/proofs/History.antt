@@ -16,10 +16,10 @@ use Rattle.group.specs.Opening.{opened}
 use Rattle.group.specs.Step.{Step, broadcast, send, receive, deliver, crash, detect, lose}
 use Rattle.group.specs.Promises.{Allowed, after}
 use Rattle.group.proofs.Places.{key}
+use Rattle.group.proofs.Broadcast.{new-word, one-more}
 use Rattle.laws.specs.Runs.{Run}
 use Rattle.laws.specs.History.{saying, says, said, recorded, HistoryRight}
 use Rattle.laws.proofs.Untouched.{keeps, untouched}
-use Rattle.laws.proofs.Broadcast.{new-word, one-more}
 use Rattle.laws.proofs.Reached.{along, opened-word}
 
 said-more : (ds : List Step) (e : Step) → said (ds ++ e ∷ []) ≡ said ds ++ says e

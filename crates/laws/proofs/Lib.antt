@@ -13,7 +13,6 @@ pub mod Sums
 pub mod Budget
 pub mod Weights
 pub mod Work
-pub mod Whole
 pub mod Visible
 pub mod Bridge
 pub mod Written
@@ -22,14 +21,12 @@ pub mod Allowing
 pub mod Opened
 pub mod Lifting
 pub mod Untouched
-pub mod Broadcast
 pub mod Entries
 pub mod Listing
 pub mod Reached
 pub mod Logs
 pub mod History
 pub mod Unrefused
-pub mod Extent
 pub mod Past
 pub mod Stays
 pub mod Ends

@@ -19,10 +19,10 @@ use Rattle.group.specs.Promises.{Allowed, after}
 use Rattle.group.proofs.Places.{Key, key}
 use Rattle.group.proofs.Kept.{fit-opened}
 use Rattle.group.proofs.Names.{word-after}
+use Rattle.group.proofs.Broadcast.{new-word, one-more}
 use Rattle.laws.specs.Runs.{Run}
 use Rattle.laws.specs.Logs.{LogsRight}
 use Rattle.laws.proofs.Untouched.{steady, spares, keeps, untouched}
-use Rattle.laws.proofs.Broadcast.{new-word, one-more}
 use Rattle.laws.proofs.Entries.{log-short, log-occurs}
 use Rattle.laws.proofs.Listing.{Lists, lists-same, lists-more, howMany-below}
 use Rattle.laws.proofs.Reached.{along, opened-word, fit-run}

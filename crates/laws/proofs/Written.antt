@@ -15,8 +15,8 @@ use Rattle.group.specs.Writes.{fresh}
 use Rattle.group.proofs.Places.{Key, key, sameField}
 use Rattle.group.proofs.Reading.{later}
 use Rattle.group.proofs.Names.{record-aside, later-aside}
+use Rattle.group.proofs.Whole.{stays, record-word}
 use Rattle.laws.proofs.Bridge.{laterIn}
-use Rattle.laws.proofs.Whole.{stays, record-word}
 
 -- ---- writes in one record
 

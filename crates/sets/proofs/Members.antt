@@ -1,14 +1,14 @@
--- Which controllers a set has after each operation.
+-- Which controllers a set has after each operation; sets that have the same are one number.
 use mathlib.Core.Path.{_≡_, sym, _∙_}
 use mathlib.Core.Bool.{false, not, _&&_, _||_}
-use Prim.Native.Nat.{ℕ, zero, suc, _-_, _/_, _%_, _^_, _≤_, _<_, zero-le}
+use Prim.Native.Nat.{ℕ, zero, suc, _+_, _-_, _/_, _%_, _^_, _≤_, _<_, zero-le}
 use native.Mathlib.Nat.{div-eq-of-lt, lt-of-lt-of-le}
 use native.Mathlib.Omega.{arith}
 use lib.Dec.{eqb, ltb, lit<, eqb·zero-suc, eqb·suc-zero, eqb·suc-suc, leb·zero, leb·suc-zero, leb·suc-suc}
 use lib.Pow.{pow-mono, pow-pos}
-use borrow.Author.Tests.{le-ltb, lt-ltb}
+use borrow.Author.Tests.{le-ltb, lt-ltb, eqb-true, eqb-false}
 use Rattle.sets.specs.Set.{has, with, without, allBelow, cut, withAll, join}
-use Rattle.sets.proofs.Digits.{has-low, has-half, has-or, has-and, has-less}
+use Rattle.sets.proofs.Digits.{digit-cases, has-low, has-half, has-or, has-and, has-less}
 use Rattle.sets.proofs.Digits.{with-or, without-less, cut-and, with-all-or}
 
 -- ---- words alone
@@ -34,6 +34,27 @@ has-all-below (suc n) zero =
 has-all-below (suc n) (suc j) =
     let e : (2 ^ suc n - 1) / 2 ≡ 2 ^ n - 1 = omega (arith, pow-pos n) in
     rw (has-half, e, leb·suc-suc) (has-all-below n j)
+
+-- two words that have the same members are one number
+same-digit : (u w : ℕ) → has u 0 ≡ has w 0 → u % 2 ≡ w % 2
+same-digit u w e =
+    digit-cases (λ x. eqb x 1 ≡ eqb (w % 2) 1 → x ≡ w % 2)
+    (λ q. omega (arith, eqb-false (w % 2) 1 (sym q)))
+    (λ q. sym (eqb-true (w % 2) 1 (sym q)))
+    u
+    (sym (has-low u) ∙ e ∙ has-low w)
+
+pub same-members : (u w : ℕ) → ((j : ℕ) → has u j ≡ has w j) → u ≡ w
+same-members u w = go (u + w) u w (omega arith)
+  where
+    go : (k u w : ℕ) → u + w ≤ k → ((j : ℕ) → has u j ≡ has w j) → u ≡ w
+    go zero u w l h = omega arith
+    go (suc k) u w l h =
+        omega (
+          arith,
+          same-digit u w (h 0),
+          go k (u / 2) (w / 2) (omega arith) (λ j. sym (has-half u j) ∙ h (suc j) ∙ has-half w j),
+        )
 
 -- ---- members after an operation
 

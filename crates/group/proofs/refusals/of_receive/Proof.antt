@@ -10,6 +10,9 @@ copy-requires c κs = search needs
 returns : tie.Need-returns
 returns c = search parted
 
+shared-slice-read-up : tie.Need-shared-slice-read-up
+shared-slice-read-up c = search needs
+
 record-at-requires : tie.Need-record-at-requires
 record-at-requires c κs = search needs
 
@@ -25,9 +28,6 @@ mul-in-flight c = search needs
 shared-slice-read-in-flight : tie.Need-shared-slice-read-in-flight
 shared-slice-read-in-flight c = search copied
 
-shared-slice-read-moves : tie.Need-shared-slice-read-moves
-shared-slice-read-moves c = search needs
-
 moves-requires : tie.Need-moves-requires
 moves-requires c κs = search needs
 
@@ -40,11 +40,11 @@ of-receive-spec =
     (tie.spec
     copy-requires
     returns
+    shared-slice-read-up
     record-at-requires
     add-in-flight
     add-in-flight-2
     mul-in-flight
     shared-slice-read-in-flight
-    shared-slice-read-moves
     moves-requires
     returns-2)

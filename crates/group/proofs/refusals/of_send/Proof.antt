@@ -10,6 +10,9 @@ copy-requires c κs = search needs
 returns : tie.Need-returns
 returns c = search parted
 
+shared-slice-read-up : tie.Need-shared-slice-read-up
+shared-slice-read-up c = search needs
+
 record-at-requires : tie.Need-record-at-requires
 record-at-requires c κs = search needs
 
@@ -25,9 +28,6 @@ mul-unsent c = search needs
 shared-slice-read-unsent : tie.Need-shared-slice-read-unsent
 shared-slice-read-unsent c = search copied
 
-shared-slice-read-moves : tie.Need-shared-slice-read-moves
-shared-slice-read-moves c = search needs
-
 moves-requires : tie.Need-moves-requires
 moves-requires c κs = search needs
 
@@ -40,11 +40,11 @@ of-send-spec =
     (tie.spec
     copy-requires
     returns
+    shared-slice-read-up
     record-at-requires
     add-unsent
     add-unsent-2
     mul-unsent
     shared-slice-read-unsent
-    shared-slice-read-moves
     moves-requires
     returns-2)
