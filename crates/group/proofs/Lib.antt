@@ -14,14 +14,7 @@ pub mod Views
 pub mod WritesIn
 pub mod Names
 pub mod EveryWord
-pub mod Whole
-pub mod Broadcast
 pub mod Kept
 pub mod StepByStep
 pub mod Asking
-pub mod Above
-pub mod Unread
-pub mod JustAbove
-pub mod SetWords
-pub mod NeverAbove
 pub mod Determined

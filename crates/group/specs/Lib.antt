@@ -11,4 +11,3 @@ pub mod Promises
 pub mod Demand2
 pub mod Lists
 pub mod Logs
-pub mod Above

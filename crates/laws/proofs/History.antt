@@ -16,7 +16,7 @@ use Rattle.group.specs.Opening.{opened}
 use Rattle.group.specs.Step.{Step, broadcast, send, receive, deliver, crash, detect, lose}
 use Rattle.group.specs.Promises.{Allowed, after}
 use Rattle.group.proofs.Places.{key}
-use Rattle.group.proofs.Broadcast.{new-word, one-more}
+use Rattle.laws.proofs.Broadcast.{new-word, one-more}
 use Rattle.laws.specs.Runs.{Run}
 use Rattle.laws.specs.History.{saying, says, said, recorded, HistoryRight}
 use Rattle.laws.proofs.Untouched.{keeps, untouched}

@@ -1,4 +1,11 @@
--- What holds of every run, from the sets up to the banks.
+-- What holds of every step and of every run, from the sets up to the banks.
+pub mod Whole
+pub mod Broadcast
+pub mod Above
+pub mod Unread
+pub mod SetWords
+pub mod JustAbove
+pub mod NeverAbove
 pub mod Onward
 pub mod Sets
 pub mod OneEnd

@@ -19,7 +19,7 @@ use Rattle.group.specs.Promises.{Allowed, after}
 use Rattle.group.proofs.Places.{Key, key}
 use Rattle.group.proofs.Kept.{fit-opened}
 use Rattle.group.proofs.Names.{word-after}
-use Rattle.group.proofs.Broadcast.{new-word, one-more}
+use Rattle.laws.proofs.Broadcast.{new-word, one-more}
 use Rattle.laws.specs.Runs.{Run}
 use Rattle.laws.specs.Logs.{LogsRight}
 use Rattle.laws.proofs.Untouched.{steady, spares, keeps, untouched}

@@ -15,7 +15,7 @@ use Rattle.group.specs.Writes.{fresh}
 use Rattle.group.proofs.Places.{Key, key, sameField}
 use Rattle.group.proofs.Reading.{later}
 use Rattle.group.proofs.Names.{record-aside, later-aside}
-use Rattle.group.proofs.Whole.{stays, record-word}
+use Rattle.laws.proofs.Whole.{stays, record-word}
 use Rattle.laws.proofs.Bridge.{laterIn}
 
 -- ---- writes in one record

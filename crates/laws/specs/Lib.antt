@@ -1,4 +1,6 @@
--- What holds of every run, as statements, in the order in which to read them.
+-- What holds of every step, of every run and of every sequence of calls, as statements, in the order in which to read
+-- them.
+pub mod Above
 pub mod Runs
 pub mod Logs
 pub mod History

@@ -3,16 +3,16 @@ use mathlib.Core.Path.{_≡_, _∙_}
 use mathlib.Core.List.{List, map}
 use Prim.Native.Nat.{ℕ, _+_}
 use borrow.Author.Tests.{ltb-true}
 use Rattle.group.specs.Place.{Field, _≔_}
 use Rattle.group.specs.Place.{N, count, message}
 use Rattle.group.specs.Layout.{Layout, words, fields, inRecord, FieldIn}
 use Rattle.group.specs.Step.{broadcast}
 use Rattle.group.specs.Writes.{fresh}
 use Rattle.group.specs.Promises.{Allowed, after}
-use Rattle.group.specs.Above.{RecordRewritten}
+use Rattle.laws.specs.Above.{RecordRewritten}
 use Rattle.group.proofs.Reading.{later-append}
 use Rattle.group.proofs.Names.{word-after}
-use Rattle.group.proofs.Whole.{record-word}
+use Rattle.laws.proofs.Whole.{record-word}
 
 module _ (L : Layout) (b : List ℕ) (who s v : ℕ) (a : Allowed L b (broadcast who s v)) where
   pub new-word : (f : Field) → FieldIn L f

@@ -9,21 +9,21 @@ use lib.Dec.{eqb}
 use borrow.Author.Tests.{eq-eqb, ne-eqb, ltb-true, le-ltb}
 use Rattle.sets.specs.Set.{has, with, allBelow}
 use Rattle.sets.proofs.Members.{has-none, has-with, has-all-below}
 use Rattle.group.specs.Place.{Field, Place}
 use Rattle.group.specs.Place.{sender, stamp, value, held, delivered, acked, unsent, inFlight}
 use Rattle.group.specs.Place.{N, mode, count, up, view, logLength, log, message}
 use Rattle.group.specs.Layout.{Layout, words, PlaceIn}
 use Rattle.group.specs.Fit.{isSize}
 use Rattle.group.specs.Opening.{views, opening, opened, openOf}
 use Rattle.group.specs.Step.{Step, broadcast, send, receive, deliver, crash, detect, lose}
 use Rattle.group.specs.Writes.{fresh}
 use Rattle.group.specs.Promises.{Allowed, after}
-use Rattle.group.specs.Above.{isSet, isSetField, Rewrites, BankRewritten, NoneAbove, NeverAbove}
+use Rattle.laws.specs.Above.{isSet, isSetField, Rewrites, BankRewritten, NoneAbove, NeverAbove}
 use Rattle.group.proofs.Places.{Key}
 use Rattle.group.proofs.Rules.{pass}
 use Rattle.group.proofs.Names.{views-aside, later-aside, word-opened}
-use Rattle.group.proofs.Above.{Pairs, end, pair, later-pairs, above-unchanged, same-N}
-use Rattle.group.proofs.Broadcast.{record-rewritten}
+use Rattle.laws.proofs.Above.{Pairs, end, pair, later-pairs, above-unchanged, same-N}
+use Rattle.laws.proofs.Broadcast.{record-rewritten}
 
 pub bank-rewritten : (L : Layout) → BankRewritten L
 unfolding openOf

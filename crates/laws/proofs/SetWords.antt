@@ -8,13 +8,13 @@ use Prim.Native.Nat.{ℕ, _+_}
 use native.Mathlib.Omega.{arith}
 use Rattle.sets.specs.Set.{has, with, without}
 use Rattle.sets.proofs.Members.{has-with, has-without}
 use Rattle.group.specs.Place.{Field, Place, Write, _≔_}
 use Rattle.group.specs.Place.{sender, stamp, value, held, delivered, acked, unsent, inFlight}
 use Rattle.group.specs.Place.{N, mode, count, up, view, logLength, log, message}
 use Rattle.group.specs.Layout.{Layout, fields, inRecord}
 use Rattle.group.specs.Step.{Step, broadcast, send, receive, deliver, crash, detect, lose}
 use Rattle.group.specs.Writes.{fresh, writes}
-use Rattle.group.specs.Above.{isSet, ByMember, SetsByMember}
+use Rattle.laws.specs.Above.{isSet, ByMember, SetsByMember}
 
 -- ---- a step for each set
 
