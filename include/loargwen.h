@@ -4,37 +4,44 @@
  * has acted on, also one that is down by now, stands exactly once in the log of every controller that is up; so does
  * every message whose sender is up. In majority mode with half of the controllers up or fewer, logs may differ.
  *
- * Link target/staticlib/libloargwen.a (`rt staticlib loargwen` makes it, for x86-64 Linux).
+ * Link libloargwen.a: where it was installed `pkg-config loargwen` says how, and in the repository
+ * `rt staticlib loargwen` makes target/staticlib/libloargwen.a. It is code for x86-64 Linux.
  *
- * The whole state of a group is its bank: LOARGWEN_BANK_BYTES bytes of yours. Each call takes the bank's address and
- * its length in bytes. The library keeps nothing between calls, allocates nothing and touches no other memory of yours;
- * of the C library it calls memcpy and memset alone. A bank may be copied, saved and put back like any other bytes.
- * Calls on different banks may run at the same time. During a call nobody else may touch the bank that it was given.
+ * The whole state of a group is its bank: LOARGWEN_BANK_BYTES bytes of yours, at any address. Each call takes the
+ * bank's address and its length in bytes. The library keeps nothing between calls, allocates nothing and touches no
+ * other memory of yours but some 5,000 bytes of the stack; of the C library it calls memcpy and memset alone. A bank
+ * may be copied, saved and put back like any other bytes. Calls on different banks may run at the same time. During a
+ * call nobody else may touch the bank that it was given.
  *
  * Of every call, on any bytes and any numbers, spoilt banks included:
  *   - it ends, and never reads or writes outside the bank;
  *   - its answer and every byte of the bank afterwards are those of the written rules, and nothing else is possible;
  *   - where it answers a refusal, every byte of the bank is as it was.
  *
- * Of every bank that loargwen_open wrote, answering LOARGWEN_DONE, and that only the calls below changed since, in
- * whatever order they came and whatever they answered:
+ * Of every bank since the last loargwen_open on it that answered LOARGWEN_DONE, where only the calls below have changed
+ * it, in whatever order they came and whatever they answered:
  *   - it is what the accepted steps made of the open group, one after another: those of loargwen_step that answered
  *     LOARGWEN_DONE, and as many of loargwen_settle's as it counted;
  *   - a controller that is down stays down; the number of controllers and the mode stay;
  *   - a log only grows at its end; it holds messages that were broadcast, none twice, and their records hold the
  *     senders' own stamps and values;
- *   - the group settles: loargwen_settle with a budget of 65535 leaves no step, and whatever order its steps are taken
- *     in instead, by loargwen_step, the group ends after equally many, with the same sets and logs but for the order
- *     inside the logs;
- *   - so the first sentences hold, also of what a controller acted on at any earlier moment.
+ *   - the group settles: loargwen_settle with a budget of 65535 leaves no step. In whatever other order the steps that
+ *     are left are taken, by loargwen_step, the group settles after equally many of them, with the same sets and the
+ *     same logs but for the order inside each;
+ *   - so the first sentences hold: of what was acted on at any moment since that open. Settled means that no send,
+ *     receipt, detect or delivery is left: loargwen_settle then answers quiet.
  *
- * Both lists are proved of the code, with the definitions in crates of the repository: docs/PROMISES.md says where. That
- * the compiled library does the same, and that this header fits it, is tested. A bank that was put back is one that
- * these calls led to up to the moment when it was saved.
+ * Both lists are proved of the code as it is written, with the definitions in the repository: docs/PROMISES.md says
+ * where. That the compiled library does the same, and that this header fits it, is tested. A bank that was put back is
+ * one that these calls led to up to the moment when it was saved.
  *
  * A bank is unfit, and every call but loargwen_open refuses it with LOARGWEN_UNFIT, when it is not LOARGWEN_BANK_BYTES
  * long or its bytes cannot be a group's: a wrong number of controllers, an unknown mode, more than 32 messages, or a
- * log longer than there are messages. In the bank each number is two bytes, the low one first.
+ * log longer than there are messages. Somebody else has then written to it: put a saved bank back, or open anew.
+ *
+ * In the bank each number is two bytes, the low one first. Controller i's log has as many entries as the number at byte
+ * 40 + 2*i says, from byte 72 + 64*i on; an entry is a message's number. A bank has room for 32 messages; for more the
+ * group is opened anew.
  */
 #ifndef LOARGWEN_H
 #define LOARGWEN_H
@@ -61,7 +68,7 @@ enum loargwen_mode {
 enum loargwen_kind {
     LOARGWEN_BROADCAST = 1, /* [who, stamp, value] the next message; who must then send it to all, itself included */
     LOARGWEN_SEND = 2,      /* [from, to, message] the copy leaves; it may go to a controller that is down */
-    LOARGWEN_RECEIVE = 3,   /* [at, from, message] the copy arrives, and at must send the message to all in its turn */
+    LOARGWEN_RECEIVE = 3,   /* [at, from, message] the copy arrives; the first time, at must then send it to all */
     LOARGWEN_DELIVER = 4,   /* [at, message] at acts on the message: it joins at's log */
     LOARGWEN_CRASH = 5,     /* [who] who is down from now on; what it has sent stays on its way */
     LOARGWEN_DETECT = 6,    /* [at, of] at no longer waits for of, which must be down; all-ack only */
@@ -69,8 +76,8 @@ enum loargwen_kind {
 };
 
 /*
- * What a call answers. Where several apply the lowest is given; but the last two causes of LOARGWEN_UNFIT come after all
- * other tests.
+ * What a call answers. Where several apply the lowest is given; but the last two causes of LOARGWEN_UNFIT come after
+ * all other tests.
  */
 enum loargwen_refusal {
     LOARGWEN_DONE = 0,

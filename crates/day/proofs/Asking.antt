@@ -99,7 +99,8 @@ module _ (day : ℕ) (w : Words) (t : Tally) (ms : List ℕ) (k : ℕ) where
   unfolding allGiven addAll
   from-given h e q = rw (add-one k, drop-cons ms k 0 h, e, q)
 
-  pub from-stranger : k < length ms → isMessage w (getD ms k 0) ≡ false → tallyFrom day w t (drop k ms) ≡ dayAnswer 1 empty
+  pub from-stranger : k < length ms → isMessage w (getD ms k 0) ≡ false
+      → tallyFrom day w t (drop k ms) ≡ dayAnswer 1 empty
   unfolding allGiven
   from-stranger h e = rw (drop-cons ms k 0, e)
 

@@ -7,7 +7,8 @@ use native.Mathlib.Omega.{arith}
 use lib.Dec.{eqb, leb}
 use lib.ListN.{length}
 use borrow.Author.Tests.{le-leb, lt-leb, leb-true, eq-eqb, ne-eqb, not-false}
-use Rattle.file.specs.Records.{Found, end, bad, got, wordAt, numberAt, openKind, recordLength, wellCut, findAt, begun}
+use Rattle.file.specs.Records.{Found, end, bad, got, wordAt, numberAt, openKind, recordLength, wellCut}
+use Rattle.file.specs.Records.{findAt, begun}
 
 module _ (s : List ℕ) (i : ℕ) where
   pub finds-end : length s ≤ i → end ≡ findAt s i

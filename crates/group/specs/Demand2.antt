@@ -1,4 +1,4 @@
--- Demand 2 of the call itself: what the rules allow is done, with its writes and nothing else; what is done was allowed.
+-- Demand 2 of the call itself: what the rules allow is done, with its writes and no other; what is done was allowed.
 use Prim.Native.Nat.{ℕ}
 use mathlib.Core.Path.{_≡_}
 use mathlib.Core.List.{List}

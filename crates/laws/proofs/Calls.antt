@@ -1,4 +1,5 @@
--- Whatever is called once a group is open, and whatever is answered: the steps that the answers tell of lead to the bank.
+-- Whatever is called once a group is open, and whatever is answered, the steps that the answers tell of lead to the
+-- bank.
 use mathlib.Core.Path.{_≡_, refl, sym, ap, subst, _∙_}
 use mathlib.Core.Bool.{Bool, true, false, cond}
 use mathlib.Core.List.{List, []}
@@ -17,7 +18,8 @@ use Rattle.step_records.specs.Records.{flat}
 use Rattle.laws.specs.Runs.{Run, done}
 use Rattle.laws.specs.Demand.{Reached}
 use Rattle.laws.specs.Settler.{Tells}
-use Rattle.laws.specs.Calls.{asksFor, asksFirst, unlessRefused, Call, openRefused, step, run, runSteps, settle, Promised}
+use Rattle.laws.specs.Calls.{asksFor, asksFirst, unlessRefused, Promised}
+use Rattle.laws.specs.Calls.{Call, openRefused, step, run, runSteps, settle}
 use Rattle.laws.specs.Calls.{taken, counted, opened, called, Called, EveryCaller}
 use Rattle.laws.proofs.Ends.{reached-by}
 use Rattle.laws.proofs.Onward.{plain-run}
@@ -26,12 +28,15 @@ use Rattle.laws.proofs.Listed.{stepped, run-leads, opening-done}
 use Rattle.laws.proofs.Demand3.{demand-3}
 
 -- the steps es lead from b to c, and are t in number
+abbrev Steps : List ℕ → List Step → List ℕ → Type 0
+Steps = Run (Allowed paper) (after paper)
+
 record Led (b : List ℕ) (es : List Step) (t : ℕ) (c : List ℕ) : Type 0 where
-  run : Run (Allowed paper) (after paper) b es c
+  run : Steps b es c
   long : length es ≡ t
 
 unmoved : {b c : List ℕ} → c ≡ b → Led b [] 0 c
-unmoved {b} e = record { run = subst (Run (Allowed paper) (after paper) b []) (sym e) done; long = refl }
+unmoved {b} e = record { run = subst (Steps b []) (sym e) done; long = refl }
 
 -- ---- one call
 
@@ -49,7 +54,7 @@ step-led b c kind x y z r p = go (eqb r 0) refl
     go : (t : Bool) → eqb r 0 ≡ t → Led b (cond t (asksFor (asked kind x y z)) []) (cond t 1 0) c
     go true e =
         let (led, one) = stepped paper b kind x y z (sym number ∙ eqb-true r 0 e) in
-        record { run = subst (Run (Allowed paper) (after paper) b (asksFor (asked kind x y z))) (sym bank) led; long = one }
+        record { run = subst (Steps b (asksFor (asked kind x y z))) (sym bank) led; long = one }
     go false e = unmoved (bank ∙ refused-leaves paper b kind x y z (λ z. eqb-false r 0 e (number ∙ z)))
 
 list-led : (b c steps : List ℕ) (a r : ℕ) → outcome a r c ≡ runOf paper b steps → Led b (asksFirst a steps) a c
@@ -58,8 +63,8 @@ list-led b c steps a r p =
     let many : a ≡ h .more = ap (λ o. o .accepted) p ∙ h .counted ∙ zero-add _ in
     record {
       run =
-          subst (λ a. Run (Allowed paper) (after paper) b (asksFirst a steps) c) (sym many)
-          (subst (Run (Allowed paper) (after paper) b (asksFirst (h .more) steps)) (sym (ap (λ o. o .bank) p)) (h .run));
+          subst (λ a. Steps b (asksFirst a steps) c) (sym many)
+          (subst (Steps b (asksFirst (h .more) steps)) (sym (ap (λ o. o .bank) p)) (h .run));
       long = subst (λ a. length (asksFirst a steps) ≡ a) (sym many) (h .long);
     }
 
@@ -85,7 +90,7 @@ open-reached b c n k o =
     record {
       sized = sized;
       known = known;
-      run = subst (λ x. Run (Allowed paper) (after paper) x [] c) (ap (λ a. a .bank) o ∙ bank) done;
+      run = subst (λ x. Steps x [] c) (ap (λ a. a .bank) o ∙ bank) done;
     }
 
 called-reached : {n k : ℕ} {before : List Step} {b : List ℕ} → Called n k before b → Reached paper n k before b

@@ -21,8 +21,8 @@ use Rattle.laws.specs.Demand.{Reached}
 use Rattle.laws.specs.Settler.{Tells}
 use Rattle.laws.specs.Calls.{opened, called, Called}
 use Rattle.laws.specs.Calls as Words
-use Rattle.laws.specs.CallsFromC.{CCall, openRefused, step, settle, PromisedToC, takenByC, CalledFromC}
-use Rattle.laws.specs.CallsFromC.{EveryCCaller}
+use Rattle.laws.specs.CallsFromC.{CCall, openRefused, step, settle, PromisedToC, takenByC, countedByC}
+use Rattle.laws.specs.CallsFromC.{CalledFromC, EveryCCaller}
 use Rattle.laws.proofs.Ends.{reached-fit}
 use Rattle.laws.proofs.Telling.{settler-tells}
 use Rattle.laws.proofs.Calls.{every-caller}
@@ -92,15 +92,18 @@ module _ {n k : ℕ} {before : List Step} (bytes : List ℕ) (w : Whole bytes)
     call : Words.Call
     promised : Words.Promised (wordsOf bytes) call (wordsOf new)
     steps : Words.taken (wordsOf bytes) call ≡ takenByC bytes x
+    counted : Words.counted call ≡ countedByC x
 
   below : (x : CCall) (new : List ℕ) → PromisedToC bytes x new → Below x new
   below (openRefused m j r z) new p =
-      let (whole, number, bank) = crossed (open-left bytes m j p) w whole-bank (open-refused-leaves paper (wordsOf bytes) m j) in
+      let (whole, number, bank) =
+      crossed (open-left bytes m j p) w whole-bank (open-refused-leaves paper (wordsOf bytes) m j) in
       record {
         whole = whole;
         call = Words.openRefused m j r z;
         promised = λ i. answer (number i) (bank i);
         steps = refl;
+        counted = refl;
       }
   below (step kind x y z r) new p =
       let (whole, number, bank) =
@@ -110,10 +113,17 @@ module _ {n k : ℕ} {before : List Step} (bytes : List ℕ) (w : Whole bytes)
         call = Words.step kind x y z r;
         promised = λ i. answer (number i) (bank i);
         steps = refl;
+        counted = refl;
       }
   below (settle d r s q) new p =
       let e = settles d r s q new p in
-      record { whole = e .whole; call = Words.settle d r s (e .quiet); promised = e .same; steps = refl }
+      record {
+        whole = e .whole;
+        call = Words.settle d r s (e .quiet);
+        promised = e .same;
+        steps = refl;
+        counted = refl;
+      }
 
 -- 1 is quiet, and nothing else that a flag shows
 flag-back : (q : ℕ) (t : Bool) → q ≡ flag t → eqb q 1 ≡ t
@@ -138,11 +148,15 @@ pub every-c-caller : EveryCCaller
 unfolding Whole
 every-c-caller n k before bytes h =
     let (w, c) = called-below n k h in
-    let relies = every-caller n k before (wordsOf bytes) c .relies in
+    let rely = every-caller n k before (wordsOf bytes) c in
+    let relies = rely .relies in
     record {
       whole = w;
       relies = relies;
       every-answer = record { opens = λ n k z. refl; steps = λ kind x y z. refl; settlings = λ d. refl };
+      counts = λ x new p.
+          (let y = below bytes w (relies .reached) x new p in
+          ap length (sym (y .steps)) ∙ rely .counts (y .call) (wordsOf new) (y .promised) ∙ y .counted);
       settling = λ d r s q new p.
           (let e = settles bytes w (relies .reached) d r s q new p in
           subst (Tells paper (wordsOf bytes) d)

@@ -55,7 +55,8 @@ module _ (L : Layout) (b : List ℕ) (f : Fit L b) (i : ℕ) (l : i < words L b 
           let room : k < L .messages = omega (arith, log-short, f .given) in
           rw (f .whole) (inside L (log i k) (omega (arith, f .few), room))
 
-  pub log-occurs : (x : ℕ) → occurs x (logOf L b i) ≡ howMany (λ k. eqb (words L b (log i k)) x) (words L b (logLength i))
+  pub log-occurs : (x : ℕ)
+      → occurs x (logOf L b i) ≡ howMany (λ k. eqb (words L b (log i k)) x) (words L b (logLength i))
   unfolding howMany
   log-occurs x =
       ap (occurs x) log-entries

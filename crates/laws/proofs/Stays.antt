@@ -17,7 +17,8 @@ use Rattle.group.specs.Refusals.{isUp, hasDelivered}
 use Rattle.group.specs.Logs.{logOf}
 use Rattle.group.specs.Promises.{Allowed, after}
 use Rattle.laws.specs.Runs.{Run, done, next}
-use Rattle.laws.proofs.Sets.{Sets, RecordSets, Ok, act, newRecord, afterSend, afterReceive, afterDeliver, afterLose}
+use Rattle.laws.proofs.Sets.{Sets, RecordSets, Ok, act, newRecord}
+use Rattle.laws.proofs.Sets.{afterSend, afterReceive, afterDeliver, afterLose}
 use Rattle.laws.proofs.Cells.{clash, is-false, joined, was-in}
 use Rattle.laws.proofs.Visible.{seen-in}
 use Rattle.laws.proofs.Bridge.{sets, recordSets}

@@ -48,6 +48,5 @@ module _ (L : Layout) where
         ended = quiet-where-ended L h;
         spent = λ q. long ∙ h .busy q .0;
         every-order = λ q es x p.
-            (let own : Finished L b (chosen L d b) (settleOf L b d .bank) = record { run = h .run; ended = h .quiet q } in
-            let e = same-end L n k r own p in (long ∙ e .0, e .1));
+            (let e = same-end L n k r (record { run = h .run; ended = h .quiet q }) p in (long ∙ e .0, e .1));
       }

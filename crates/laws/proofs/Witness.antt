@@ -103,7 +103,8 @@ module _ (L : Layout) {n k : ℕ} {before : List Step} {b : List ℕ} (r : Reach
       let given : m < words L b count = omega (arith, end .0, here .header-stays _ _ whole .2) in
       let kept = here .header-stays fs x (p .run) in
       let word = same .outside (message m delivered) (omega (arith, here .fit .given), omega arith) no-entry in
-      here .agreement fs x p (quorum-after fs x (p .run) q) m i j (omega (arith, kept .2)) (ap (λ w. has w i) word ∙ end .1)
+      here .agreement fs x p (quorum-after fs x (p .run) q) m i j (omega (arith, kept .2))
+      (ap (λ w. has w i) word ∙ end .1)
       (ap (λ w. has w j) (kept .3) ∙ u)
     where
       no-entry : (i k : ℕ) → message m delivered ≡ log i k → ⊥

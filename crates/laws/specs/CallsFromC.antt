@@ -1,8 +1,10 @@
 -- The same for a C program: the calls of include/loargwen.h that may change a bank's bytes, and what it may rely on.
 use Prim.Native.Nat.{ℕ}
 use mathlib.Core.Path.{_≡_}
+use mathlib.Core.Bool.{cond}
 use mathlib.Core.List.{List, []}
 use lib.Dec.{eqb}
+use lib.ListN.{length}
 use Rattle.group.specs.Layout.{paper}
 use Rattle.group.specs.Step.{Step, asked}
 use Rattle.group.specs.Opening.{openOf}
@@ -29,6 +31,11 @@ takenByC bytes (openRefused n k r z) = []
 takenByC bytes (step kind x y z r) = unlessRefused r (asked kind x y z)
 takenByC bytes (settle d r t q) = chosen paper t (wordsOf bytes)
 
+abbrev pub countedByC : CCall → ℕ
+countedByC (openRefused n k r z) = 0
+countedByC (step kind x y z r) = cond (eqb r 0) 1 0
+countedByC (settle d r t q) = t
+
 -- none is left out
 pub record EveryAnswerToC (bytes : List ℕ) : Type 0 where
   pub opens : (n k : ℕ)
@@ -45,14 +52,16 @@ pub record EveryAnswerToC (bytes : List ℕ) : Type 0 where
 abbrev pub CalledFromC : ℕ → ℕ → List Step → List ℕ → Type 0
 CalledFromC n k = Calls (λ new. (bytes : List ℕ) × OpenBytes bytes n k 0 new) PromisedToC takenByC
 
--- the bytes are a bank's; it was reached by the steps that the answers tell of, and demand 3 is had of it; a
--- settling's answer tells what is left and how every order ends
+-- the bytes are a bank's; it was reached by the steps that the answers tell of, and demand 3 is had of it; whatever is
+-- called next takes as many steps as its answer counts, and a settling's tells what is left and how every order ends
 pub record CCallersRely (n k : ℕ) (before : List Step) (bytes : List ℕ) : Type 0 where
   pub whole : bytes ≡ bytesOf (wordsOf bytes)
   pub relies : Relies n k before (wordsOf bytes)
   pub every-answer : EveryAnswerToC bytes
+  pub counts : (x : CCall) (new : List ℕ) → PromisedToC bytes x new → length (takenByC bytes x) ≡ countedByC x
   pub settling : (d r t q : ℕ) (new : List ℕ) → SettleBytes bytes d r t q new
       → Tells paper (wordsOf bytes) d (ending r t (eqb q 1) (wordsOf new))
 
 abbrev pub EveryCCaller : Type 0
-EveryCCaller = (n k : ℕ) (before : List Step) (bytes : List ℕ) → CalledFromC n k before bytes → CCallersRely n k before bytes
+EveryCCaller = (n k : ℕ) (before : List Step) (bytes : List ℕ) → CalledFromC n k before bytes
+    → CCallersRely n k before bytes

@@ -24,7 +24,8 @@ abbrev μ-loop : tie.MeasureT-loop
 μ-loop bank who day log count t₀ k₀ t k = length log - k
 
 -- what `refused` answers is the definition's answer where that is a number and an empty tally
-refuses : {d : DayAnswer} {r x n s : ℕ} → (x ≡ r) × (n ≡ 0) × (s ≡ 0) → d ≡ dayAnswer r empty → dayAnswer x (tallied n s) ≡ d
+refuses : {d : DayAnswer} {r x n s : ℕ} → (x ≡ r) × (n ≡ 0) × (s ≡ 0) → d ≡ dayAnswer r empty
+    → dayAnswer x (tallied n s) ≡ d
 refuses e f = rw (e .0, e .1, e .2) (sym f)
 
 -- the entry, from where the question of the log is not refused
