@@ -80,7 +80,7 @@ fn logs() {
     say_log(b"log in an unfit bank", &bank, 1);
 }
 
-fn say_day(what: &[u8], t: day::DayTally) {
+fn say_day(what: &[u8], t: day::DayAnswer) {
     say::refusal(what, t.refusal);
     say::part(what, b": count", t.count as u64);
     say::part(what, b": sum", t.sum as u64);

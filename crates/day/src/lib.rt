@@ -8,16 +8,16 @@ mod entries;
 pub use entries::Tally;
 
 // The answer to a question about a day: the tally is empty where it is refused.
-pub struct DayTally {
+pub struct DayAnswer {
     pub refusal: u16,
     pub count: u16,
     pub sum: u32,
 }
 
-fn refused(number: u16) -> DayTally
+fn refused(number: u16) -> DayAnswer
     ensures { λ r. ⌜ (r .refusal ≡ number) × (r .count ≡ 0) × (r .sum ≡ 0) ⌝ }
 {
-    DayTally {
+    DayAnswer {
         refusal: number,
         count: 0,
         sum: 0,
@@ -25,7 +25,7 @@ fn refused(number: u16) -> DayTally
 }
 
 // The count and the sum of a controller's log on a day.
-pub fn tally_day(bank: &[u16], who: u16, day: u16) -> DayTally
+pub fn tally_day(bank: &[u16], who: u16, day: u16) -> DayAnswer
     ensures { λ r. ⌜ TallyPromise (now (bank .entry)) who day (r .refusal) (r .count) (r .sum) ⌝ }
 {
     let l = group::log_length(bank, who);
@@ -48,7 +48,7 @@ pub fn tally_day(bank: &[u16], who: u16, day: u16) -> DayTally
         t = t.add_entry(day, bank[a + Bank::STAMP], bank[a + Bank::VALUE]);
         k += 1;
     }
-    DayTally {
+    DayAnswer {
         refusal: 0,
         count: t.count,
         sum: t.sum,

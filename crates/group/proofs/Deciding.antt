@@ -41,29 +41,29 @@ second-broken s t e = rw e (and-false s)
 -- ---- a test that a call makes, where r is what the call gave back
 
 module _ (t r : Bool) (e : r ≡ t) where
-  pub said-true : not r ≡ false → t ≡ true
-  said-true h = sym e ∙ not-false r h
+  pub tested-true : not r ≡ false → t ≡ true
+  tested-true h = sym e ∙ not-false r h
 
-  pub said-false : not r ≡ true → t ≡ false
-  said-false h = sym e ∙ not-true r h
+  pub tested-false : not r ≡ true → t ≡ false
+  tested-false h = sym e ∙ not-true r h
 
 -- the same of each test that is made so, by name: `search` would try the two above at every test
 module _ (w i : ℕ) (r : Bool) (e : r ≡ has w i) where
-  pub has-said : (v : Bool) → r ≡ v → has w i ≡ v
-  has-said v h = sym e ∙ h
+  pub has-tested : (v : Bool) → r ≡ v → has w i ≡ v
+  has-tested v h = sym e ∙ h
 
   pub has-true : not r ≡ false → has w i ≡ true
-  has-true = said-true (has w i) r e
+  has-true = tested-true (has w i) r e
 
   pub has-false : not r ≡ true → has w i ≡ false
-  has-false = said-false (has w i) r e
+  has-false = tested-false (has w i) r e
 
 module _ (k n u w : ℕ) (r : Bool) (e : r ≡ enough k n u w) where
   pub enough-true : not r ≡ false → enough k n u w ≡ true
-  enough-true = said-true (enough k n u w) r e
+  enough-true = tested-true (enough k n u w) r e
 
   pub enough-false : not r ≡ true → enough k n u w ≡ false
-  enough-false = said-false (enough k n u w) r e
+  enough-false = tested-false (enough k n u w) r e
 
 pub ruleset tested = (
   passed,
@@ -77,7 +77,7 @@ pub ruleset tested = (
   both-hold,
   first-broken,
   second-broken,
-  has-said,
+  has-tested,
   has-true,
   has-false,
   enough-true,

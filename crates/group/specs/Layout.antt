@@ -92,15 +92,15 @@ size L = start 8 (bankWidths L)
 -- ---- the places that a layout has
 
 -- in which region of its record a word stands, and where there
-abbrev pub run : Field → ℕ
-run sender = 0
-run stamp = 1
-run value = 2
-run held = 3
-run delivered = 4
-run (acked i) = 5
-run (unsent i) = 6
-run (inFlight i) = 7
+abbrev pub regionIn : Field → ℕ
+regionIn sender = 0
+regionIn stamp = 1
+regionIn value = 2
+regionIn held = 3
+regionIn delivered = 4
+regionIn (acked i) = 5
+regionIn (unsent i) = 6
+regionIn (inFlight i) = 7
 
 abbrev pub index : Field → ℕ
 index sender = 0
@@ -113,7 +113,7 @@ index (unsent i) = i
 index (inFlight i) = i
 
 abbrev pub FieldIn : Layout → Field → Type 0
-FieldIn L f = index f < getD (recordWidths L) (run f) 0
+FieldIn L f = index f < getD (recordWidths L) (regionIn f) 0
 
 abbrev pub PlaceIn : Layout → Place → Type 0
 PlaceIn L N = Unit {0}

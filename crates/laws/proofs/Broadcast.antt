@@ -32,4 +32,5 @@ module _ (L : Layout) (b : List ℕ) (who s v : ℕ) (a : Allowed L b (broadcast
       ∙ later-append (inRecord c (map (λ f. f ≔ g f) (fields L))) _ count _
 
 pub record-rewritten : (L : Layout) → RecordRewritten L
-record-rewritten L = new-word L
+record-rewritten L b s a p h z =
+    rw (z .4, z .5) (new-word L b (z .0) (z .1) (z .2) (rw (z .4) at a) (z .3) ((rw (z .5) at h) .1))

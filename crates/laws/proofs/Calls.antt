@@ -20,7 +20,7 @@ use Rattle.laws.specs.Demand.{Reached}
 use Rattle.laws.specs.Settler.{Tells}
 use Rattle.laws.specs.Calls.{asksFor, asksFirst, unlessRefused, Promised}
 use Rattle.laws.specs.Calls.{Call, openRefused, step, run, runSteps, settle}
-use Rattle.laws.specs.Calls.{taken, counted, opened, called, Called, EveryCaller}
+use Rattle.laws.specs.Calls.{stepsOf, countOf, opened, called, Called, EveryCaller}
 use Rattle.laws.proofs.Ends.{reached-by}
 use Rattle.laws.proofs.Onward.{plain-run}
 use Rattle.laws.proofs.Telling.{settler-tells}
@@ -69,10 +69,10 @@ list-led b c steps a r p =
     }
 
 module _ {n k : ℕ} {before : List Step} {b : List ℕ} (h : Reached paper n k before b) where
-  pub settle-tells : (d r t : ℕ) (q : Bool) (c : List ℕ) → SettlePromise b d r t q c → Tells paper b d (ending r t q c)
+  settle-tells : (d r t : ℕ) (q : Bool) (c : List ℕ) → SettlePromise b d r t q c → Tells paper b d (ending r t q c)
   settle-tells d r t q c p = subst (Tells paper b d) (sym p) (settler-tells paper h d)
 
-  call-led : (x : Call) (c : List ℕ) → Promised b x c → Led b (taken b x) (counted x) c
+  call-led : (x : Call) (c : List ℕ) → Promised b x c → Led b (stepsOf b x) (countOf x) c
   call-led (openRefused m j r z) c p =
       unmoved
       (ap (λ a. a .bank) p ∙ open-refused-leaves paper b m j (λ e. z (ap (λ a. a .refusal) p ∙ e)))
@@ -84,7 +84,7 @@ module _ {n k : ℕ} {before : List Step} {b : List ℕ} (h : Reached paper n k 
 
 -- ---- any calls
 
-pub open-reached : (b c : List ℕ) (n k : ℕ) → OpenPromise b n k 0 c → Reached paper n k [] c
+open-reached : (b c : List ℕ) (n k : ℕ) → OpenPromise b n k 0 c → Reached paper n k [] c
 open-reached b c n k o =
     let (sized, known, bank) = opening-done paper b n k (sym (ap (λ a. a .refusal) o)) in
     record {
@@ -105,12 +105,13 @@ every-caller n k before b h =
       relies = record { reached = r; demand = demand-3 paper n k before b r };
       every-answer =
           record {
-            opens = λ n k z. refl;
-            steps = λ kind x y z. refl;
-            runs = λ list. refl;
-            records = λ list. refl;
-            settlings = λ d. refl;
+            of-open = λ n k z. refl;
+            of-step = λ kind x y z. refl;
+            of-run = λ list. refl;
+            of-records = λ list. refl;
+            of-settle = λ d. refl;
           };
+      leads = λ x c p. call-led r x c p .run;
       counts = λ x c p. call-led r x c p .long;
       settling = settle-tells r;
     }

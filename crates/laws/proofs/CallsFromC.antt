@@ -17,11 +17,13 @@ use Rattle.loargwen.specs.Bytes.{wordsOf, bytesOf}
 use Rattle.loargwen.specs.Face.{isBank, flag, settledBytes, SettleBytes}
 use Rattle.loargwen.proofs.Crossing.{length-bytes}
 use Rattle.loargwen.proofs.Kept.{Left, answered, stored, handed-on, unchanged, open-left, step-left, settle-left}
+use Rattle.group.specs.Promises.{Allowed, after}
+use Rattle.laws.specs.Runs.{Run}
 use Rattle.laws.specs.Demand.{Reached}
 use Rattle.laws.specs.Settler.{Tells}
 use Rattle.laws.specs.Calls.{opened, called, Called}
 use Rattle.laws.specs.Calls as Words
-use Rattle.laws.specs.CallsFromC.{CCall, openRefused, step, settle, PromisedToC, takenByC, countedByC}
+use Rattle.laws.specs.CallsFromC.{CCall, openRefused, step, settle, PromisedToC, stepsOfC, countOfC}
 use Rattle.laws.specs.CallsFromC.{CalledFromC, EveryCCaller}
 use Rattle.laws.proofs.Ends.{reached-fit}
 use Rattle.laws.proofs.Telling.{settler-tells}
@@ -91,8 +93,8 @@ module _ {n k : ℕ} {before : List Step} (bytes : List ℕ) (w : Whole bytes)
     whole : Whole new
     call : Words.Call
     promised : Words.Promised (wordsOf bytes) call (wordsOf new)
-    steps : Words.taken (wordsOf bytes) call ≡ takenByC bytes x
-    counted : Words.counted call ≡ countedByC x
+    steps : Words.stepsOf (wordsOf bytes) call ≡ stepsOfC bytes x
+    counted : Words.countOf call ≡ countOfC x
 
   below : (x : CCall) (new : List ℕ) → PromisedToC bytes x new → Below x new
   below (openRefused m j r z) new p =
@@ -153,7 +155,11 @@ every-c-caller n k before bytes h =
     record {
       whole = w;
       relies = relies;
-      every-answer = record { opens = λ n k z. refl; steps = λ kind x y z. refl; settlings = λ d. refl };
+      every-answer = record { of-open = λ n k z. refl; of-step = λ kind x y z. refl; of-settle = λ d. refl };
+      leads = λ x new p.
+          (let y = below bytes w (relies .reached) x new p in
+          subst (λ es. Run (Allowed paper) (after paper) (wordsOf bytes) es (wordsOf new)) (y .steps)
+          (rely .leads (y .call) (wordsOf new) (y .promised)));
       counts = λ x new p.
           (let y = below bytes w (relies .reached) x new p in
           ap length (sym (y .steps)) ∙ rely .counts (y .call) (wordsOf new) (y .promised) ∙ y .counted);

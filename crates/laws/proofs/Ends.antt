@@ -32,7 +32,7 @@ use Rattle.laws.proofs.Lifting.{lift-settling, reached-inv}
 use Rattle.laws.proofs.Reached.{fit-run, opened-word}
 use Rattle.laws.proofs.Logs.{logs-hold-broadcasts, delivered-room}
 use Rattle.sets.proofs.Members.{same-members}
-use Rattle.laws.proofs.Past.{N-kept, mode-kept, stamp-kept, value-kept, log-run}
+use Rattle.laws.proofs.Past.{N-kept, mode-kept, stamp-kept, value-kept, log-run, log-absent}
 use Rattle.laws.proofs.Swap.{same-sets}
 
 module _ (L : Layout) (n k : ℕ) where
@@ -209,6 +209,9 @@ module _ (L : Layout) (n k : ℕ) where
           past = λ i j h u.
               log-run L i (h .0) (plain-run p) .past j (h .1) u
               ∙ sym (log-run L i (h .0) (plain-run q) .past j (h .1) (omega (arith, same-length i (h .0))));
+          absent = λ i j h u.
+              (let k : words L b N ≤ i = omega (arith, N-kept L (plain-run p)) in
+              log-absent L i (h .0) (plain-run p) k j (h .1) ∙ sym (log-absent L i (h .0) (plain-run q) k j (h .1)));
         }
 
   -- every order takes equally many steps, and ends with the same bank but for the order inside the logs

@@ -1,14 +1,14 @@
 -- A log's used part, entry by entry: what it lists, and how often a number stands in it.
 use mathlib.Core.Path.{_≡_, refl, sym, ap, _∙_}
 use mathlib.Core.Bool.{cond}
-use mathlib.Core.List.{List, _∷_, map}
+use mathlib.Core.List.{List, [], _∷_, map}
 use Prim.Native.Nat.{ℕ, zero, suc, _+_, _*_, _≤_, _<_}
 use native.Mathlib.Nat.{add-zero, zero-add, add-assoc}
 use native.Mathlib.Omega.{arith}
 use lib.Dec.{eqb}
 use lib.ListN.{length, getD, take, drop}
 use lib.Seq.{drop-cons}
-use borrow.Author.Tests.{lt-ltb, leb-true}
+use borrow.Author.Tests.{lt-ltb, le-ltb, leb-true}
 use Rattle.sets.specs.Set.{howMany}
 use Rattle.sets.proofs.Counts.{every-at}
 use Rattle.group.specs.Place.{N, count, logLength, log}
@@ -17,7 +17,8 @@ use Rattle.group.specs.Fit.{Fit, logFits}
 use Rattle.group.specs.Logs.{logOf}
 use Rattle.group.proofs.Places.{inside}
 use Rattle.group.proofs.Fitness.{facts-fit}
-use Rattle.group.proofs.Asking.{log-there, whole-length}
+use Rattle.group.proofs.Rules.{pass, stop}
+use Rattle.group.proofs.Asking.{log-there, no-length, whole-length}
 use Rattle.laws.specs.Logs.{occurs}
 
 -- n words from a on, of a list that has them
@@ -63,3 +64,9 @@ module _ (L : Layout) (b : List ℕ) (f : Fit L b) (i : ℕ) (l : i < words L b 
       ∙ sym (zero-add _)
       ∙ count-from x (λ k. words L b (log i k)) (words L b (logLength i)) 0
       ∙ ap (howMany (λ k. eqb (words L b (log i k)) x)) (zero-add (words L b (logLength i)))
+
+-- a controller that is not there has no log
+pub no-log : (L : Layout) (b : List ℕ) → Fit L b → (i : ℕ) → words L b N ≤ i → logOf L b i ≡ []
+no-log L b f i l =
+    ap (λ n. take n (drop (address L (log i 0)) b))
+    (no-length L b i 3 (pass 1 (facts-fit L b f) (stop 0 (le-ltb i (words L b N) l) refl)) (λ e. omega arith))

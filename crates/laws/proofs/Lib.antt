@@ -1,4 +1,5 @@
 -- What holds of every step and of every run, from the sets up to the banks.
+pub mod Untouched
 pub mod Whole
 pub mod Broadcast
 pub mod Above
@@ -27,7 +28,6 @@ pub mod Steps
 pub mod Allowing
 pub mod Opened
 pub mod Lifting
-pub mod Untouched
 pub mod Entries
 pub mod Listing
 pub mod Reached

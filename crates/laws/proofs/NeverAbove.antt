@@ -22,8 +22,9 @@ use Rattle.laws.specs.Above.{isSet, isSetField, Rewrites, BankRewritten,
 use Rattle.group.proofs.Places.{Key}
 use Rattle.group.proofs.Rules.{pass}
 use Rattle.group.proofs.Names.{views-aside, later-aside, word-opened}
-use Rattle.laws.proofs.Above.{Pairs, end, pair, later-pairs, above-unchanged, same-N}
-use Rattle.laws.proofs.Broadcast.{record-rewritten}
+use Rattle.laws.proofs.Untouched.{untouched}
+use Rattle.laws.proofs.Above.{Pairs, end, pair, later-pairs, above-unchanged}
+use Rattle.laws.proofs.Broadcast.{new-word}
 
 pub bank-rewritten : (L : Layout) → BankRewritten L
 unfolding openOf
@@ -116,12 +117,12 @@ module _ (L : Layout) where
       → PlaceIn L (message (words L b count) f) → isSetField f ≡ true → (j : ℕ) → words L b N ≤ j
       → has (words L (after L b (broadcast who t v)) (message (words L b count) f)) j ≡ false
   new-none b who t v f a h q j l =
-      ap (λ x. has x j) (record-rewritten L b who t v a f (h .1))
+      ap (λ x. has x j) (new-word L b who t v a f (h .1))
       ∙ fresh-lacks (words L b N) j l who t v (ltb-true _ _ (a .free .0)) f q
 
   step-none : (b : List ℕ) (s : Step) → Allowed L b s → NoneAbove L b → NoneAbove L (after L b s)
   step-none b s a none p h q j l =
-      go (is-broadcast s) (in-record (words L b count) p) (omega (arith, same-N L b s a))
+      go (is-broadcast s) (in-record (words L b count) p) (omega (arith, untouched L b s a N tt refl))
     where
       stays : (Rewrites (words L b) s p → ⊥) → words L b N ≤ j → has (words L (after L b s) p) j ≡ false
       stays d i = above-unchanged L b s a p h q d j i ∙ none p h q j i

@@ -7,7 +7,7 @@ use Prim.Native.Nat.{ℕ, _+_, _≤_, _<_}
 use native.Mathlib.Nat.{lt-irrefl}
 use native.Mathlib.Omega.{arith}
 use lib.Dec.{eqb, ltb}
-use borrow.Author.Tests.{eq-eqb, eqb-true, ltb-true}
+use borrow.Author.Tests.{eq-eqb, eqb-true, ltb-true, ltb-false}
 use Rattle.group.specs.Place.{Place, Words, N, mode, count, up, logLength, log, message, stamp, value}
 use Rattle.group.specs.Layout.{Layout, words, PlaceIn}
 use Rattle.group.specs.Step.{Step, broadcast, send, receive, deliver, crash, detect, lose}
@@ -174,3 +174,15 @@ module _ (L : Layout) where
         absent = λ q. g .absent (omega (arith, untouched L b e a N tt refl)) ∙ h .absent q;
         past = λ k j q. g .past k j q ∙ h .past k j (omega (arith, g .grows));
       }
+
+  -- of a controller that is not there, every word of the log stays
+  pub log-absent : (i : ℕ) → i < L .controllers → {b x : List ℕ} {es : List Step} → Run (Allowed L) (after L) b es x
+      → words L b N ≤ i → (k : ℕ) → k < L .messages → words L x (log i k) ≡ words L b (log i k)
+  log-absent i l {b} {x} r q k j = go (ltb k (words L b (logLength i))) refl
+    where
+      g : LogStep b x i
+      g = log-run i l r
+
+      go : (t : Bool) → ltb k (words L b (logLength i)) ≡ t → words L x (log i k) ≡ words L b (log i k)
+      go true e = g .same k j (ltb-true k (words L b (logLength i)) e)
+      go false e = g .past k j (omega (arith, ltb-false k (words L b (logLength i)) e, g .absent q))

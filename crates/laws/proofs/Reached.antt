@@ -19,7 +19,9 @@ use Rattle.group.proofs.Views.{size-range}
 use Rattle.group.proofs.WritesIn.{opening-in}
 use Rattle.group.proofs.Kept.{fit-opened, fit-after}
 use Rattle.group.proofs.Names.{views-aside, later-aside}
+use Rattle.laws.specs.Above.{NoneAbove}
 use Rattle.laws.specs.Runs.{Run, done, next}
+use Rattle.laws.proofs.NeverAbove.{never-above}
 
 -- P speaks of the steps taken and of the state that they led to
 module _ {S E : Type 0} {allows : S → E → Type 0} {act : S → E → S} (P : List E → S → Type 0)
@@ -55,3 +57,7 @@ opened-word L n k e p h other =
 module _ (L : Layout) (n k : ℕ) (fits : isSize L n ≡ true) (known : isMode k ≡ true) where
   pub fit-run : {es : List Step} {b : List ℕ} → Run (Allowed L) (after L) (opened L n k) es b → Fit L b
   fit-run r = along (λ ds b. Fit L b) (λ ds b e a f. fit-after L b e a) (fit-opened L n k fits known) r
+
+  pub none-above : {es : List Step} {b : List ℕ} → Run (Allowed L) (after L) (opened L n k) es b → NoneAbove L b
+  none-above r =
+      along (λ ds b. NoneAbove L b) (λ ds b e a h. never-above L .step b e a h) (never-above L .opening n k fits) r

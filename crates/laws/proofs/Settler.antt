@@ -18,7 +18,7 @@ use Rattle.group.proofs.Kept.{fit-after}
 use Rattle.group.proofs.Views.{size-range}
 use Rattle.settler.specs.Candidates
 use Rattle.settler.specs.Settling.{Ending, ending, onNext, settleFrom, settleOf}
-use Rattle.laws.specs.Runs.{Run, done, next, Ended, Settling, settlings, most, largestBudget}
+use Rattle.laws.specs.Runs.{Run, done, next, Ended, Settling, settlings, most}
 use Rattle.laws.specs.Demand.{Reached, Finished}
 use Rattle.laws.specs.Settler.{chosen}
 use Rattle.laws.proofs.Visible.{visible}
@@ -38,6 +38,7 @@ pub record EndingOf (L : Layout) (k d : ℕ) (b : List ℕ) (es : List Step) (o 
   pub accepted : o .refusal ≡ 0
   pub run : Run (Settling (Allowed L)) (after L) b es (o .bank)
   pub counted : o .steps ≡ k + length es
+  pub within : length es ≤ d
   -- it says that no step is left where none is; else the budget is spent and a step is left
   pub quiet : o .quiet ≡ true → Ended (Settling (Allowed L)) (o .bank)
   pub busy : o .quiet ≡ false → (length es ≡ d) × ((e : Step) × Settling (Allowed L) (o .bank) e)
@@ -51,6 +52,7 @@ module _ (L : Layout) where
         accepted = refl;
         run = done;
         counted = omega arith;
+        within = omega arith;
         quiet = λ _. z;
         busy = λ e. absurd (true≢false e);
       }
@@ -66,6 +68,7 @@ module _ (L : Layout) where
             accepted = refl;
             run = done;
             counted = omega arith;
+            within = omega arith;
             quiet = λ e. absurd (false≢true e);
             busy = λ _. (refl, (s, n .0));
           }
@@ -84,6 +87,7 @@ module _ (L : Layout) where
             accepted = h .accepted;
             run = next o (h .run);
             counted = omega (arith, h .counted);
+            within = omega (arith, h .within);
             quiet = h .quiet;
             busy = λ e. let x = h .busy e in (ap suc (x .0), x .1);
           }
@@ -133,10 +137,9 @@ module _ (L : Layout) where
         let q = settler-ends h (omega (arith, work-within-most)) in
         (q, record { run = h .run; ended = h .quiet q })
 
-    -- the largest budget is enough where no bank of the layout has more to do
-    pub largest-is-enough : most (L .controllers) (L .messages) ≤ largestBudget
-        → settleOf L b largestBudget .quiet ≡ true
-    largest-is-enough l =
+    -- the largest u16 is budget enough where no bank of the layout has more to do
+    pub u16-is-enough : most (L .controllers) (L .messages) ≤ 65535 → settleOf L b 65535 .quiet ≡ true
+    u16-is-enough l =
         let f = fit-run L n k (r .sized) (r .known) (r .run) in
         let few : n ≤ L .controllers = size-range L n (r .sized) .1 in
-        settler-finishes largestBudget (omega (arith, most-rises few (f .given))) .0
+        settler-finishes 65535 (omega (arith, most-rises few (f .given))) .0

@@ -15,7 +15,7 @@ use Rattle.settler.specs.Settling.{Ending, settleOf, SettlePromise}
 use Rattle.settler.proofs.Endings.{settle-unfit}
 use Rattle.loargwen.specs.Bytes.{wordsOf}
 use Rattle.loargwen.specs.Face.{isBank, bytesAfter, flag, settledBytes, SettleBytes}
-use Rattle.laws.specs.Runs.{Run, Settling, mostOfAny, largestBudget}
+use Rattle.laws.specs.Runs.{Run, Settling, mostOfAny}
 use Rattle.laws.specs.Spoilt.{AlwaysEnds}
 use Rattle.laws.proofs.Visible.{visible}
 use Rattle.laws.proofs.Bridge.{sets}
@@ -45,30 +45,30 @@ module _ (L : Layout) (b : List ℕ) where
 full : (b : List ℕ) → Fit paper b → bound paper b ≤ 41712
 full b f = omega (arith, any-full-bank, any-rises (f .few) (f .given))
 
-largest-enough : (b : List ℕ) → Fit paper b → settleOf paper b largestBudget .quiet ≡ true
-largest-enough b f = quiet-within paper b f largestBudget (omega (arith, full b f))
+u16-always-enough : (b : List ℕ) → Fit paper b → settleOf paper b 65535 .quiet ≡ true
+u16-always-enough b f = quiet-within paper b f 65535 (omega (arith, full b f))
 
 answered-fit : (b : List ℕ) (d : ℕ) → settleOf paper b d .refusal ≡ 0 → Fit paper b
 answered-fit b d e =
     fit-facts paper b
     (is-true (fit paper b) (λ u. omega (arith, ap (λ (o : Ending). o .refusal) (settle-unfit paper b d u))))
 
-one-call : (b b′ : List ℕ) (r k : ℕ) (q : Bool) → SettlePromise b largestBudget r k q b′
+one-call : (b b′ : List ℕ) (r k : ℕ) (q : Bool) → SettlePromise b 65535 r k q b′
     → r ≡ 0 → (k ≤ 41712) × (q ≡ true)
 one-call b b′ r k q p z =
-    let f = answered-fit b largestBudget (sym (ap (λ (o : Ending). o .refusal) p) ∙ z) in
-    let h = settler-run paper largestBudget b f in (
+    let f = answered-fit b 65535 (sym (ap (λ (o : Ending). o .refusal) p) ∙ z) in
+    let h = settler-run paper 65535 b f in (
       omega (arith, ap (λ (o : Ending). o .steps) p, h .counted, steps-within paper b (h .run), full b f),
-      ap (λ (o : Ending). o .quiet) p ∙ largest-enough b f,
+      ap (λ (o : Ending). o .quiet) p ∙ u16-always-enough b f,
     )
 
 -- on bytes an answer of 0 is that of a bank's, with 1 for quiet
-one-c-call : (bytes new : List ℕ) (r k q : ℕ) → SettleBytes bytes largestBudget r k q new
+one-c-call : (bytes new : List ℕ) (r k q : ℕ) → SettleBytes bytes 65535 r k q new
     → r ≡ 0 → (k ≤ 41712) × (q ≡ 1)
 one-c-call bytes new r k q p z = go (isBank bytes) p
   where
     due : Ending
-    due = settleOf paper (wordsOf bytes) largestBudget
+    due = settleOf paper (wordsOf bytes) 65535
 
     go : (t : Bool)
         → settledBytes r k q new
@@ -86,11 +86,11 @@ one-c-call bytes new r k q p z = go (isBank bytes) p
 pub always-ends : AlwaysEnds
 always-ends =
     record {
-      bounded = λ L b f es x r. steps-within L b r;
+      bounded = λ L b es x r. steps-within L b r;
       enough = quiet-within;
       rises = λ n n′ c c′ l k. any-rises l k;
-      full-bank = any-full-bank;
-      largest-enough = largest-enough;
+      fullest = any-full-bank;
+      u16-always-enough = u16-always-enough;
       one-call = one-call;
       one-c-call = one-c-call;
     }

@@ -1,13 +1,13 @@
 -- What a group keeps from one moment to every later one, whatever is accepted between: who is down, what was delivered,
 -- and how each log begins.
-use mathlib.Core.Path.{_≡_, sym, ap, ap₂, subst, _∙_}
+use mathlib.Core.Path.{_≡_, refl, sym, ap, ap₂, subst, _∙_}
 use mathlib.Core.Bool.{Bool, true, false, cond}
-use mathlib.Core.List.{List, _∷_, _++_, map}
+use mathlib.Core.List.{List, [], _∷_, _++_, map, append-nil}
 use Prim.Native.Nat.{ℕ, zero, suc, _+_, _-_, _≤_, _<_}
 use native.Mathlib.Nat.{add-zero, zero-add, suc-add}
 use native.Mathlib.Omega.{arith}
-use lib.Dec.{eqb}
-use borrow.Author.Tests.{ne-eqb}
+use lib.Dec.{eqb, ltb}
+use borrow.Author.Tests.{ne-eqb, ltb-true, ltb-false}
 use Rattle.sets.specs.Set.{has}
 use Rattle.group.specs.Place.{N, count, up, logLength, log, message, delivered}
 use Rattle.group.specs.Layout.{Layout, words, upFrom}
@@ -24,7 +24,7 @@ use Rattle.laws.proofs.Visible.{seen-in}
 use Rattle.laws.proofs.Bridge.{sets, recordSets}
 use Rattle.laws.proofs.Steps.{setsOf}
 use Rattle.laws.proofs.Lifting.{lift-run}
-use Rattle.laws.proofs.Entries.{log-short, log-entries}
+use Rattle.laws.proofs.Entries.{log-short, log-entries, no-log}
 use Rattle.laws.proofs.Past.{N-kept, log-run}
 
 -- ---- on sets
@@ -130,17 +130,30 @@ longer f g (suc n) k j h =
     (longer f g n k (suc j) (λ i l. h i (omega arith))
     ∙ ap (λ i. map f (upFrom (suc j) n) ++ map g (upFrom i k)) (let e : suc j + n ≡ j + suc n = omega arith in e))
 
-pub log-grows : (L : Layout) {b x : List ℕ} {es : List Step} → Fit L b → Fit L x → Run (Allowed L) (after L) b es x
-    → (i : ℕ) → i < words L b N → (more : List ℕ) × (logOf L x i ≡ logOf L b i ++ more)
-log-grows L {b} {x} fb fx r i l =
-    let g = log-run L i (omega (arith, fb .few)) r in
-    let at : List ℕ → ℕ → ℕ = λ b k. words L b (log i k) in
-    let n : ℕ = words L b (logLength i) in
-    let k : ℕ = words L x (logLength i) - n in (
-      map (at x) (upFrom n k),
-      log-entries L x fx i (omega (arith, N-kept L r))
-          ∙ ap (λ k. map (at x) (upFrom 0 k)) (let s : words L x (logLength i) ≡ n + k = omega (arith, g .grows) in s)
-          ∙ longer (at b) (at x) n k 0
-          (λ j h. g .same j (omega (arith, log-short L b fb i l, fb .given)) (omega arith))
-          ∙ ap₂ (λ begun j. begun ++ map (at x) (upFrom j k)) (sym (log-entries L b fb i l)) (zero-add n),
-    )
+module _ (L : Layout) {b x : List ℕ} {es : List Step} (fb : Fit L b) (fx : Fit L x)
+    (r : Run (Allowed L) (after L) b es x) (i : ℕ) where
+  abbrev Grown : Type 0
+  Grown = (more : List ℕ) × (logOf L x i ≡ logOf L b i ++ more)
+
+  there-grows : i < words L b N → Grown
+  there-grows l =
+      let g = log-run L i (omega (arith, fb .few)) r in
+      let at : List ℕ → ℕ → ℕ = λ b k. words L b (log i k) in
+      let n : ℕ = words L b (logLength i) in
+      let k : ℕ = words L x (logLength i) - n in (
+        map (at x) (upFrom n k),
+        log-entries L x fx i (omega (arith, N-kept L r))
+            ∙ ap (λ k. map (at x) (upFrom 0 k)) (let s : words L x (logLength i) ≡ n + k = omega (arith, g .grows) in s)
+            ∙ longer (at b) (at x) n k 0
+            (λ j h. g .same j (omega (arith, log-short L b fb i l, fb .given)) (omega arith))
+            ∙ ap₂ (λ begun j. begun ++ map (at x) (upFrom j k)) (sym (log-entries L b fb i l)) (zero-add n),
+      )
+
+  pub log-grows : Grown
+  log-grows = go (ltb i (words L b N)) refl
+    where
+      go : (t : Bool) → ltb i (words L b N) ≡ t → Grown
+      go true h = there-grows (ltb-true i (words L b N) h)
+      go false h =
+          let l = ltb-false i (words L b N) h in
+          ([], no-log L x fx i (omega (arith, N-kept L r)) ∙ sym (append-nil _ ∙ no-log L b fb i l))

@@ -4,6 +4,7 @@ use mathlib.Core.List.{List, [], _∷_}
 use mathlib.Core.Option.{Option, none, some}
 use Prim.Native.Nat.{ℕ, zero, suc}
 use native.Mathlib.Nat.{zero-add}
+use native.Mathlib.Omega.{arith}
 use lib.ListN.{length}
 use Rattle.group.specs.Layout.{Layout}
 use Rattle.group.specs.Step.{Step}
@@ -11,7 +12,7 @@ use Rattle.group.specs.Promises.{Allowed, after}
 use Rattle.settler.specs.Candidates
 use Rattle.settler.specs.Settling.{onNext, settleOf}
 use Rattle.laws.specs.Runs.{Run, Settling}
-use Rattle.laws.specs.Demand.{Reached, Finished}
+use Rattle.laws.specs.Demand.{Reached}
 use Rattle.laws.specs.Settler.{chosen, Tells}
 use Rattle.laws.proofs.Ends.{reached-fit, same-end}
 use Rattle.laws.proofs.Settler.{settler-run, quiet-where-ended}
@@ -44,6 +45,7 @@ module _ (L : Layout) where
         accepted = h .accepted;
         taken = subst (λ es. Run (Settling (Allowed L)) (after L) b es (settleOf L b d .bank)) (sym same) (h .run);
         counted = ap length same ∙ sym long;
+        within = omega (arith, long, h .within);
         quiet = h .quiet;
         ended = quiet-where-ended L h;
         spent = λ q. long ∙ h .busy q .0;

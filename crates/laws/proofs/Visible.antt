@@ -11,7 +11,7 @@ use Rattle.sets.proofs.Tests.{both}
 use Rattle.group.specs.Place.{Field, Place, Words, recordOf, Write, _≔_}
 use Rattle.group.specs.Place.{held, delivered, acked, unsent, inFlight}
 use Rattle.group.specs.Place.{N, mode, count, up, view, logLength, log, message}
-use Rattle.group.specs.Layout.{Layout, recordWidths, words, inRecord, run, index, PlaceIn, FieldIn}
+use Rattle.group.specs.Layout.{Layout, recordWidths, words, inRecord, regionIn, index, PlaceIn, FieldIn}
 use Rattle.group.specs.Step.{Step, broadcast, send, receive, deliver, crash, detect, lose}
 use Rattle.group.specs.Writes.{freshRecord, writes}
 use Rattle.group.specs.Promises.{Allowed, after}
@@ -91,9 +91,9 @@ module _ (L : Layout) where
       go false = refl
 
   pub seen-outside : (w : Words) (m : ℕ) (f : Field) → (FieldIn L f → ⊥) → visible w (message m f) ≡ 0
-  seen-outside w m f h = seen-out w (message m f) (go (ltb (index f) (getD (recordWidths L) (run f) 0)) refl)
+  seen-outside w m f h = seen-out w (message m f) (go (ltb (index f) (getD (recordWidths L) (regionIn f) 0)) refl)
     where
-      go : (t : Bool) → ltb (index f) (getD (recordWidths L) (run f) 0) ≡ t → (t && ltb m (L .messages)) ≡ false
+      go : (t : Bool) → ltb (index f) (getD (recordWidths L) (regionIn f) 0) ≡ t → (t && ltb m (L .messages)) ≡ false
       go true e = absurd (h (ltb-true (index f) _ e))
       go false e = refl
 

@@ -12,7 +12,7 @@ use borrow.Author.Tests.{eq-eqb}
 use Rattle.group.specs.Place.{Field, Place, Write, _≔_}
 use Rattle.group.specs.Place.{N, mode, count, up, view, logLength, log, message}
 use Rattle.group.specs.Place.{sender, stamp, value, held, delivered, acked, unsent, inFlight}
-use Rattle.group.specs.Layout.{Layout, upFrom, fields, inRecord, FieldIn, run, index}
+use Rattle.group.specs.Layout.{Layout, upFrom, fields, inRecord, FieldIn, regionIn, index}
 use Rattle.group.proofs.Places.{samePlace}
 use Rattle.group.proofs.Names.{one-name}
 use Rattle.group.proofs.Reading.{later}
@@ -54,7 +54,7 @@ module _ (c : ℕ) (g : Field → ℕ) (f : Field) where
       here : f ≡ h → later (whole (h ∷ fs)) (message c f) x ≡ g f
       here e =
           let self : samePlace (message c f) (message c f) ≡ true =
-          rw (eq-eqb (run f) (run f) refl, eq-eqb (index f) (index f) refl, eq-eqb c c refl) in
+          rw (eq-eqb (regionIn f) (regionIn f) refl, eq-eqb (index f) (index f) refl, eq-eqb c c refl) in
           ap (λ q. later (whole fs) (message c f) (cond (samePlace (message c q) (message c f)) (g q) x)) (sym e)
           ∙ rw self (stays fs)
 

@@ -1,7 +1,7 @@
 -- The worked example's logs from demand 3: one controller is brought to deliver, and no log is looked at.
 use mathlib.Core.Path.{_≡_, refl, sym, ap, subst, subst₃, _∙_}
 use mathlib.Core.Bool.{Bool, true, _&&_}
-use mathlib.Core.Logic.{_⊎_, inl, inr}
+use mathlib.Core.Logic.{_⊎_, inl, inr, ⊎-elim}
 use mathlib.Core.List.{List, [], _∷_, _++_}
 use Prim.Native.Nat.{ℕ, _*_, _<_}
 use native.Mathlib.Omega.{arith}
@@ -23,14 +23,11 @@ use Rattle.group.proofs.Kept.{fit-after}
 use Rattle.settler.specs.Candidates.{free, candidates}
 use Rattle.settler.specs.Candidates
 use Rattle.settler.specs.Settling.{settleFrom, settleOf}
-use Rattle.day.specs.Days.{dayOf}
-use Rattle.day.specs.Tallies.{addAll, allGiven, tallyOf}
 use Rattle.laws.specs.Runs.{Run, done, next, Settling, settles, most}
 use Rattle.laws.specs.Logs.{occurs}
 use Rattle.laws.specs.Demand.{Reached, Finished, Quorum}
 use Rattle.laws.specs.Demand3.{Demand3}
-use Rattle.laws.specs.Table.{seenAfter, seenOf}
-use Rattle.laws.specs.Witness.{halfSent, WorkedLogs, QuorumNeeded}
+use Rattle.laws.specs.Witness.{workedSteps, WorkedLogs, partedRun, partedEnd, QuorumNeeded}
 use Rattle.laws.proofs.Onward.{go-on, plain-run}
 use Rattle.laws.proofs.Ends.{reached-on}
 use Rattle.laws.proofs.Demand3.{demand-3}
@@ -41,7 +38,7 @@ abbrev afterAll : Layout → List ℕ → List Step → List ℕ
 afterAll L b [] = b
 afterAll L b (e ∷ es) = afterAll L (after L b e) es
 
-pub run-ends : (L : Layout) {b x : List ℕ} {es : List Step} → Run (Allowed L) (after L) b es x → x ≡ afterAll L b es
+run-ends : (L : Layout) {b x : List ℕ} {es : List Step} → Run (Allowed L) (after L) b es x → x ≡ afterAll L b es
 run-ends L done = refl
 run-ends L (next o r) = run-ends L r
 
@@ -115,7 +112,7 @@ module _ (L : Layout) {n k : ℕ} {before : List Step} {b : List ℕ} (r : Reach
 module _ (k : ℕ) (es : List Step) where
   -- as the steps that were sent leave it, and once 1 has delivered
   abbrev sentBank : List ℕ
-  sentBank = afterAll paper (opened paper 3 k) halfSent
+  sentBank = afterAll paper (opened paper 3 k) workedSteps
 
   abbrev actedBank : List ℕ
   actedBank = afterAll paper sentBank es
@@ -128,13 +125,13 @@ module _ (k : ℕ) (es : List Step) where
     ups : (isUp (words paper sentBank) 1 ≡ true) × (isUp (words paper sentBank) 2 ≡ true)
     quorum : Quorum paper sentBank
 
-  module _ (a : Acts) {fs : List Step} {x : List ℕ} (r : Reached paper 3 k halfSent sentBank)
+  module _ (a : Acts) {fs : List Step} {x : List ℕ} (r : Reached paper 3 k workedSteps sentBank)
       (p : Finished paper sentBank fs x) where
-    begun : Demand3 paper 3 k halfSent sentBank
-    begun = demand-3 paper 3 k halfSent sentBank r
+    begun : Demand3 paper 3 k workedSteps sentBank
+    begun = demand-3 paper 3 k workedSteps sentBank r
 
-    end : Demand3 paper 3 k (halfSent ++ fs) x
-    end = demand-3 paper 3 k (halfSent ++ fs) x (reached-on paper 3 k r (p .run))
+    end : Demand3 paper 3 k (workedSteps ++ fs) x
+    end = demand-3 paper 3 k (workedSteps ++ fs) x (reached-on paper 3 k r (p .run))
 
     only : (j m : ℕ) → j < 3 → 0 < occurs m (logOf paper x j) → m < 1
     only j m l o =
@@ -154,7 +151,7 @@ module _ (k : ℕ) (es : List Step) where
   worked : Acts → WorkedLogs k
   worked a b x fs r p =
       let e = run-ends paper (r .run) in
-      let r₀ = subst (Reached paper 3 k halfSent) e r in
+      let r₀ = subst (Reached paper 3 k workedSteps) e r in
       let p₀ = subst (λ b. Finished paper b fs x) e p in
       (log-is a r₀ p₀ 1 (omega arith) (a .ups .0), log-is a r₀ p₀ 2 (omega arith) (a .ups .1))
 
@@ -183,5 +180,12 @@ worked-majority =
 
 pub quorum-needed : QuorumNeeded
 unfolding has with without allBelow cut withAll every within howMany countBelow fields opened enough refusalOf stepOf
-    runFrom runOf candidates Candidates.next settleFrom settleOf dayOf addAll allGiven tallyOf seenAfter seenOf
-quorum-needed = refl
+    runFrom runOf candidates Candidates.next settleFrom settleOf partedRun partedEnd
+quorum-needed =
+    record {
+      accepted = refl;
+      quiet = refl;
+      up = (refl, refl);
+      logs = (refl, refl);
+      none = ⊎-elim (λ e. omega arith) (λ l. omega arith);
+    }

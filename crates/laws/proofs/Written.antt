@@ -10,7 +10,7 @@ use borrow.Author.Tests.{eq-eqb, ne-eqb, ltb-true, ltb-false}
 use Rattle.sets.specs.Set.{allBelow}
 use Rattle.group.specs.Place.{Field, Place, Record, Write, _≔_, message}
 use Rattle.group.specs.Place.{sender, stamp, value, held, delivered, acked, unsent, inFlight}
-use Rattle.group.specs.Layout.{Layout, fields, inRecord, run, index, FieldIn}
+use Rattle.group.specs.Layout.{Layout, fields, inRecord, regionIn, index, FieldIn}
 use Rattle.group.specs.Writes.{fresh}
 use Rattle.group.proofs.Places.{Key, key, sameField}
 use Rattle.group.proofs.Reading.{later}
@@ -40,7 +40,7 @@ pub this-message : (m : ℕ) (xs : List (Write Field)) (f : Field) (r : Record)
     → later (inRecord m xs) (message m f) (r f) ≡ laterIn xs r f
 this-message m [] f r = refl
 this-message m (y ∷ ys) f r =
-    ap (λ t. later (inRecord m ys) (message m f) (cond (eqb (run (y .at)) (run f) && t) (y .word) (r f))) one
+    ap (λ t. later (inRecord m ys) (message m f) (cond (eqb (regionIn (y .at)) (regionIn f) && t) (y .word) (r f))) one
     ∙ this-message m ys f (λ g. cond (sameField (y .at) g) (y .word) (r g))
   where
     one : (eqb (index (y .at)) (index f) && eqb m m) ≡ eqb (index (y .at)) (index f)

@@ -9,11 +9,12 @@ use lib.ListN.{length}
 use Rattle.group.specs.Layout.{paper}
 use Rattle.group.specs.Step.{Step, asked}
 use Rattle.group.specs.Opening.{openOf}
-use Rattle.group.specs.Promises.{stepOf, OpenPromise, StepPromise}
+use Rattle.group.specs.Promises.{Allowed, after, stepOf, OpenPromise, StepPromise}
 use Rattle.group.specs.Lists.{runOf, RunPromise}
 use Rattle.settler.specs.Settling.{ending, settleOf, SettlePromise}
 use Rattle.step_records.specs.declared.Step.{Step as StepRecord}
 use Rattle.step_records.specs.Records.{flat, StepsPromise}
+use Rattle.laws.specs.Runs.{Run}
 use Rattle.laws.specs.Demand.{Reached}
 use Rattle.laws.specs.Settler.{chosen, Tells}
 use Rattle.laws.specs.Demand3.{Demand3}
@@ -56,44 +57,44 @@ Promised b (runSteps steps a r) c = StepsPromise b steps a r c
 Promised b (settle d r t q) c = SettlePromise b d r t q c
 
 -- the steps that it took, and how many its answer counts; a settling's are the settler's own first so many
-abbrev pub taken : List ℕ → Call → List Step
-taken b (openRefused n k r z) = []
-taken b (step kind x y z r) = unlessRefused r (asked kind x y z)
-taken b (run steps a r) = asksFirst a steps
-taken b (runSteps steps a r) = asksFirst a (flat steps)
-taken b (settle d r t q) = chosen paper t b
+abbrev pub stepsOf : List ℕ → Call → List Step
+stepsOf b (openRefused n k r z) = []
+stepsOf b (step kind x y z r) = unlessRefused r (asked kind x y z)
+stepsOf b (run steps a r) = asksFirst a steps
+stepsOf b (runSteps steps a r) = asksFirst a (flat steps)
+stepsOf b (settle d r t q) = chosen paper t b
 
-abbrev pub counted : Call → ℕ
-counted (openRefused n k r z) = 0
-counted (step kind x y z r) = cond (eqb r 0) 1 0
-counted (run steps a r) = a
-counted (runSteps steps a r) = a
-counted (settle d r t q) = t
+abbrev pub countOf : Call → ℕ
+countOf (openRefused n k r z) = 0
+countOf (step kind x y z r) = cond (eqb r 0) 1 0
+countOf (run steps a r) = a
+countOf (runSteps steps a r) = a
+countOf (settle d r t q) = t
 
 -- none is left out: whatever is asked of whatever bank, the answer and the bank that the definitions give are promised
 pub record EveryAnswer (b : List ℕ) : Type 0 where
-  pub opens : (n k : ℕ) (z : openOf paper b n k .refusal ≡ 0 → ⊥)
+  pub of-open : (n k : ℕ) (z : openOf paper b n k .refusal ≡ 0 → ⊥)
       → Promised b (openRefused n k (openOf paper b n k .refusal) z) (openOf paper b n k .bank)
-  pub steps : (kind x y z : ℕ)
+  pub of-step : (kind x y z : ℕ)
       → let a = stepOf paper b kind x y z in Promised b (step kind x y z (a .refusal)) (a .bank)
-  pub runs : (list : List ℕ)
+  pub of-run : (list : List ℕ)
       → let o = runOf paper b list in Promised b (run list (o .accepted) (o .refusal)) (o .bank)
-  pub records : (list : List StepRecord)
+  pub of-records : (list : List StepRecord)
       → let o = runOf paper b (flat list) in Promised b (runSteps list (o .accepted) (o .refusal)) (o .bank)
-  pub settlings : (d : ℕ)
+  pub of-settle : (d : ℕ)
       → let e = settleOf paper b d in Promised b (settle d (e .refusal) (e .steps) (e .quiet)) (e .bank)
 
 -- ---- any calls, one after another
 
 -- an open that answered 0, then calls as they come: the steps taken so far, and what the lent memory holds now
 pub data Calls {C : Type 0} (Opened : List ℕ → Type 0) (Promised : List ℕ → C → List ℕ → Type 0)
-    (taken : List ℕ → C → List Step) : List Step → List ℕ → Type 0 where
-  opened : {b : List ℕ} → Opened b → Calls Opened Promised taken [] b
-  called : {before : List Step} {b c : List ℕ} (x : C) → Calls Opened Promised taken before b → Promised b x c
-      → Calls Opened Promised taken (before ++ taken b x) c
+    (stepsOf : List ℕ → C → List Step) : List Step → List ℕ → Type 0 where
+  opened : {b : List ℕ} → Opened b → Calls Opened Promised stepsOf [] b
+  called : {before : List Step} {b c : List ℕ} (x : C) → Calls Opened Promised stepsOf before b → Promised b x c
+      → Calls Opened Promised stepsOf (before ++ stepsOf b x) c
 
 abbrev pub Called : ℕ → ℕ → List Step → List ℕ → Type 0
-Called n k = Calls (λ c. (b : List ℕ) × OpenPromise b n k 0 c) Promised taken
+Called n k = Calls (λ c. (b : List ℕ) × OpenPromise b n k 0 c) Promised stepsOf
 
 -- ---- what whoever calls may rely on
 
@@ -102,12 +103,13 @@ pub record Relies (n k : ℕ) (before : List Step) (b : List ℕ) : Type 0 where
   pub reached : Reached paper n k before b
   pub demand : Demand3 paper n k before b
 
--- whatever was called and answered, and whatever is called next: a call takes as many steps as its answer counts, and a
--- settling's answer tells what is left and how every order ends
+-- whatever was called and answered, and whatever is called next: the next call leads from this bank to its own by its
+-- steps, as many as its answer counts, and a settling's answer tells what is left and how every order ends
 pub record CallersRely (n k : ℕ) (before : List Step) (b : List ℕ) : Type 0 where
   pub relies : Relies n k before b
   pub every-answer : EveryAnswer b
-  pub counts : (x : Call) (c : List ℕ) → Promised b x c → length (taken b x) ≡ counted x
+  pub leads : (x : Call) (c : List ℕ) → Promised b x c → Run (Allowed paper) (after paper) b (stepsOf b x) c
+  pub counts : (x : Call) (c : List ℕ) → Promised b x c → length (stepsOf b x) ≡ countOf x
   pub settling : (d r t : ℕ) (q : Bool) (c : List ℕ) → SettlePromise b d r t q c → Tells paper b d (ending r t q c)
 
 abbrev pub EveryCaller : Type 0

@@ -28,12 +28,14 @@ pub record Finished (L : Layout) (b : List ℕ) (es : List Step) (x : List ℕ) 
   pub ended : Ended (Settling (Allowed L)) x
 
 -- two banks that are the same but for the order inside the logs: every word outside the logs is equal, each log holds
--- each number as often as the other bank's, and the words past its end are equal
+-- each number as often as the other bank's, and the words past its end are equal, as are the logs of controllers that
+-- are not there
 pub record Alike (L : Layout) (x y : List ℕ) : Type 0 where
   pub long : length x ≡ length y
   pub outside : (p : Place) → PlaceIn L p → ((i k : ℕ) → p ≡ log i k → ⊥) → words L x p ≡ words L y p
   pub logs : (i m : ℕ) → i < words L x N → occurs m (logOf L x i) ≡ occurs m (logOf L y i)
   pub past : (i k : ℕ) → PlaceIn L (log i k) → words L x (logLength i) ≤ k → words L x (log i k) ≡ words L y (log i k)
+  pub absent : (i k : ℕ) → PlaceIn L (log i k) → words L x N ≤ i → words L x (log i k) ≡ words L y (log i k)
 
 -- all-ack, or majority with more than half of the controllers up
 abbrev pub Quorum : Layout → List ℕ → Type 0

@@ -14,7 +14,8 @@ use Rattle.group.specs.Promises.{Allowed, after, stepOf}
 use Rattle.settler.specs.Settling.{settleOf}
 use Rattle.day.specs.Days.{lastDay}
 use Rattle.day.specs.Tallies.{tallyRefusal}
-use Rattle.laws.specs.Runs.{Run, Settling, settlings, most, largestBudget}
+use Rattle.laws.specs.Above.{NoneAbove}
+use Rattle.laws.specs.Runs.{Run, Settling, settlings, most}
 use Rattle.laws.specs.Logs.{occurs, LogsRight}
 use Rattle.laws.specs.History.{HistoryRight}
 use Rattle.laws.specs.Demand.{Finished, Alike, Quorum}
@@ -30,6 +31,8 @@ pub record Demand3 (L : Layout) (n k : ℕ) (before : List Step) (b : List ℕ) 
   -- value."
   pub logs-hold-broadcasts : LogsRight L b
   pub records-hold-broadcasts : HistoryRight L before b
+  -- of set bits of N and above, which nothing changes, an opened group has none
+  pub none-above : NoneAbove L b
   -- "an opened group never gets there": the bank is fit, and neither a step, for a full log, nor a tally, for a stray
   -- entry, is refused by 1
   pub fit : Fit L b
@@ -45,7 +48,7 @@ pub record Demand3 (L : Layout) (n k : ℕ) (before : List Step) (b : List ℕ) 
       → (m i : ℕ) → m < words L b count → hasDelivered (words L b) i m ≡ true
       → (m < words L x count) × (hasDelivered (words L x) i m ≡ true)
   pub logs-grow : (es : List Step) (x : List ℕ) → Run (Allowed L) (after L) b es x
-      → (i : ℕ) → i < n → (more : List ℕ) × (logOf L x i ≡ logOf L b i ++ more)
+      → (i : ℕ) → (more : List ℕ) × (logOf L x i ≡ logOf L b i ++ more)
   -- ---- "From there take only sends, receipts, detections and deliveries until none is left."
 
   -- it ends, and on the way N, the mode, the messages and who is up stay: a quorum may be counted before or after
@@ -67,8 +70,7 @@ pub record Demand3 (L : Layout) (n k : ℕ) (before : List Step) (b : List ℕ) 
   -- so the settler's answer tells of every order, whatever its budget; 65,535 is enough where no bank of this layout
   -- has more to do
   pub settler-tells : (d : ℕ) → Tells L b d (settleOf L b d)
-  pub largest-is-enough : most (L .controllers) (L .messages) ≤ largestBudget
-      → settleOf L b largestBudget .quiet ≡ true
+  pub u16-is-enough : most (L .controllers) (L .messages) ≤ 65535 → settleOf L b 65535 .quiet ≡ true
   -- "At that end, in all-ack, or in majority-ack with more than half the controllers up, a message delivered by any
   -- controller, up or down, stands exactly once in the log of each one up."
   pub agreement : (es : List Step) (x : List ℕ) → Finished L b es x → Quorum L x
@@ -83,3 +85,7 @@ pub record Demand3 (L : Layout) (n k : ℕ) (before : List Step) (b : List ℕ) 
   pub validity : (es : List Step) (x : List ℕ) → Finished L b es x → Quorum L x
       → (m j : ℕ) → m < words L x count → isUp (words L x) (words L x (message m sender)) ≡ true
       → isUp (words L x) j ≡ true → occurs m (logOf L x j) ≡ 1
+
+-- "that is 17,136 for N = 16 and c = 32", and no group of the paper's size has more
+abbrev pub PaperBound : Type 0
+PaperBound = (most 16 32 ≡ 17136) × ((n c : ℕ) → n ≤ 16 → c ≤ 32 → most n c ≤ 17136)

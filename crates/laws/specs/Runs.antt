@@ -40,7 +40,3 @@ most n c = 2 * (n * n) * c + n * c + n * (n - 1)
 -- and two more where its sender does not hold the message: once it does, it must send it again
 unfoldable pub mostOfAny : ℕ → ℕ → ℕ
 mostOfAny n c = 5 * (n * n) * c + n * c + n * (n - 1)
-
--- the largest budget that a call can be given: a u16
-abbrev pub largestBudget : ℕ
-largestBudget = 65535

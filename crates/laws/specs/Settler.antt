@@ -38,6 +38,7 @@ pub record Tells (L : Layout) (b : List ℕ) (d : ℕ) (o : Ending) : Type 0 whe
   -- it takes settling steps and counts them, and a budget of as many takes the same
   pub taken : Run (Settling (Allowed L)) (after L) b (chosen L (o .steps) b) (o .bank)
   pub counted : length (chosen L (o .steps) b) ≡ o .steps
+  pub within : o .steps ≤ d
   -- it says that no step is left just where none is; else its budget is spent
   pub quiet : o .quiet ≡ true → Ended (Settling (Allowed L)) (o .bank)
   pub ended : Ended (Settling (Allowed L)) (o .bank) → o .quiet ≡ true

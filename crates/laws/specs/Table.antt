@@ -32,10 +32,10 @@ pub record Case : Type 0 where
   pub budget : ℕ
   pub expected : Seen
 
-abbrev pub case : ℕ → ℕ → List ℕ → ℕ → Seen → Case
+abbrev case : ℕ → ℕ → List ℕ → ℕ → Seen → Case
 case n k list budget expected = record { N = n; mode = k; list = list; budget = budget; expected = expected }
 
-abbrev pub seen : ℕ → ℕ → ℕ → Bool → ℕ → ℕ → ℕ → List (List ℕ) → List ℕ → Seen
+abbrev seen : ℕ → ℕ → ℕ → Bool → ℕ → ℕ → ℕ → List (List ℕ) → List ℕ → Seen
 seen a r k q h d acks logs days =
     record {
       accepted = a;
@@ -50,14 +50,14 @@ seen a r k q h d acks logs days =
     }
 
 -- a controller's log that is empty, and one that holds message 0
-abbrev pub none : List ℕ
+abbrev none : List ℕ
 none = []
 
-abbrev pub one : List ℕ
+abbrev one : List ℕ
 one = 0 ∷ []
 
 -- 0 broadcasts at stamp 96, sends two copies and is gone
-abbrev halfSent : List ℕ
+abbrev pub halfSent : List ℕ
 halfSent = 1 ∷ 0 ∷ 96 ∷ 500 ∷ 2 ∷ 0 ∷ 0 ∷ 0 ∷ 2 ∷ 0 ∷ 1 ∷ 0 ∷ 5 ∷ 0 ∷ 0 ∷ 0 ∷ []
 
 -- 0 broadcasts at a stamp

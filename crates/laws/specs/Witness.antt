@@ -4,36 +4,48 @@ use Prim.Native.Nat.{ℕ}
 use mathlib.Core.Path.{_≡_}
 use mathlib.Core.Bool.{true}
 use mathlib.Core.List.{List, [], _∷_}
-use Rattle.group.specs.Layout.{paper}
-use Rattle.group.specs.Step.{Step, broadcast, send, crash}
+use Rattle.group.specs.Layout.{paper, words}
+use Rattle.group.specs.Opening.{opened}
+use Rattle.group.specs.Step.{Step}
+use Rattle.group.specs.Refusals.{isUp}
+use Rattle.group.specs.Lists.{Outcome, runOf}
 use Rattle.group.specs.Logs.{logOf}
-use Rattle.laws.specs.Demand.{Reached, Finished}
-use Rattle.laws.specs.Table.{Case, case, seen, none, one, seenOf}
+use Rattle.settler.specs.Settling.{Ending, settleOf}
+use Rattle.laws.specs.Demand.{Reached, Finished, Quorum}
+use Rattle.laws.specs.Calls.{asksFirst}
+use Rattle.laws.specs.Table.{halfSent}
 
--- 0 broadcasts at stamp 96, sends two of its three copies and is gone
-abbrev pub halfSent : List Step
-halfSent = broadcast 0 96 500 ∷ send 0 0 0 ∷ send 0 1 0 ∷ crash 0 ∷ []
+-- the steps that the table's first two rows ask for
+abbrev pub workedSteps : List Step
+workedSteps = asksFirst 4 halfSent
 
 -- then every order that is finished leaves message 0, and nothing else, in the logs of 1 and of 2
 abbrev pub WorkedLogs : ℕ → Type 0
 WorkedLogs k =
     (b x : List ℕ) (es : List Step)
-    → Reached paper 3 k halfSent b
+    → Reached paper 3 k workedSteps b
     → Finished paper b es x
     → (logOf paper x 1 ≡ 0 ∷ []) × (logOf paper x 2 ≡ 0 ∷ [])
 
--- four controllers in majority mode: 0 delivers on the acknowledgements of 0, 1 and 2, and 1 and 2 crash. Settled, 0
--- has the message in its log, and 3, which is up too, has not: two of four up are no quorum
-abbrev pub parted : Case
+-- four controllers in majority mode: 0 delivers on the acknowledgements of 0, 1 and 2, and 1 and 2 crash
+abbrev parted : List ℕ
 parted =
-    case 4 2
-    (1 ∷ 0 ∷ 0 ∷ 7
+    1 ∷ 0 ∷ 0 ∷ 7
     ∷ 2 ∷ 0 ∷ 0 ∷ 0 ∷ 3 ∷ 0 ∷ 0 ∷ 0
     ∷ 2 ∷ 0 ∷ 1 ∷ 0 ∷ 3 ∷ 1 ∷ 0 ∷ 0 ∷ 2 ∷ 1 ∷ 0 ∷ 0 ∷ 3 ∷ 0 ∷ 1 ∷ 0
     ∷ 2 ∷ 0 ∷ 2 ∷ 0 ∷ 3 ∷ 2 ∷ 0 ∷ 0 ∷ 2 ∷ 2 ∷ 0 ∷ 0 ∷ 3 ∷ 0 ∷ 2 ∷ 0
-    ∷ 4 ∷ 0 ∷ 0 ∷ 0 ∷ 5 ∷ 1 ∷ 0 ∷ 0 ∷ 5 ∷ 2 ∷ 0 ∷ 0 ∷ [])
-    100
-    (seen 14 0 8 true 15 1 15 (one ∷ none ∷ none ∷ none ∷ []) (1 ∷ 0 ∷ []))
+    ∷ 4 ∷ 0 ∷ 0 ∷ 0 ∷ 5 ∷ 1 ∷ 0 ∷ 0 ∷ 5 ∷ 2 ∷ 0 ∷ 0 ∷ []
 
-abbrev pub QuorumNeeded : Type 0
-QuorumNeeded = seenOf parted ≡ parted .expected
+unfoldable pub partedRun : Outcome
+partedRun = runOf paper (opened paper 4 2) parted
+
+unfoldable pub partedEnd : Ending
+partedEnd = settleOf paper (partedRun .bank) 100
+
+-- settled, 0 and 3 are up, 0 has the message in its log and 3 has not: two of four up are no quorum
+pub record QuorumNeeded : Type 0 where
+  pub accepted : partedRun .refusal ≡ 0
+  pub quiet : partedEnd .quiet ≡ true
+  pub up : (isUp (words paper (partedEnd .bank)) 0 ≡ true) × (isUp (words paper (partedEnd .bank)) 3 ≡ true)
+  pub logs : (logOf paper (partedEnd .bank) 0 ≡ 0 ∷ []) × (logOf paper (partedEnd .bank) 3 ≡ [])
+  pub none : Quorum paper (partedEnd .bank) → ⊥

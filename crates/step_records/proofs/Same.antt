@@ -22,13 +22,13 @@ use Rattle.step_records.specs.Records.{flat, StepsPromise}
 use Rattle.step_records.proofs.ByRecord.{records-begin}
 
 -- on the same steps both forms give the same number of accepted steps, the same refusal and the same bank
-pub same-as-flat : (b : List ℕ) (ss : List Step) {n k r s : ℕ} {c d : List ℕ} → StepsPromise b ss n r c
+pub same-as-flat : (b : List ℕ) (ss : List Step) (n k r s : ℕ) (c d : List ℕ) → StepsPromise b ss n r c
     → RunPromise b (flat ss) k s d → (n ≡ k) × (r ≡ s) × (c ≡ d)
-same-as-flat b ss e f = run-determined b (flat ss) e f
+same-as-flat b ss n k r s c d e f = run-determined b (flat ss) e f
 
-pub steps-determined : (b : List ℕ) (ss : List Step) {n k r s : ℕ} {c d : List ℕ} → StepsPromise b ss n r c
+pub steps-determined : (b : List ℕ) (ss : List Step) (n k r s : ℕ) (c d : List ℕ) → StepsPromise b ss n r c
     → StepsPromise b ss k s d → (n ≡ k) × (r ≡ s) × (c ≡ d)
-steps-determined b ss e f = run-determined b (flat ss) e f
+steps-determined b ss n k r s c d e f = run-determined b (flat ss) e f
 
 abbrev NotRagged : ℕ → Type 0
 NotRagged r = r ≡ 13 → ⊥
@@ -57,8 +57,8 @@ module _ (L : Layout) where
       (step-not-ragged b (s .kind) (s .a) (s .b) (s .c))
 
 -- 13 does not arise: a record is whole, and no step is refused by that number
-pub never-ragged : (b : List ℕ) (ss : List Step) {n r : ℕ} {c : List ℕ} → StepsPromise b ss n r c → r ≡ 13 → ⊥
-never-ragged b ss {r = r} e q = by-fitness (fit paper b) refl (sym (ap (λ o. o .refusal) e) ∙ q)
+pub never-ragged : (b : List ℕ) (ss : List Step) (n r : ℕ) (c : List ℕ) → StepsPromise b ss n r c → r ≡ 13 → ⊥
+never-ragged b ss n r c e q = by-fitness (fit paper b) refl (sym (ap (λ o. o .refusal) e) ∙ q)
   where
     by-fitness : (t : Bool) → fit paper b ≡ t → NotRagged (runOf paper b (flat ss) .refusal)
     by-fitness true f = rw (records-begin paper b ss f) (run-not-ragged paper 0 b ss)

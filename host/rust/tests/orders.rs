@@ -192,7 +192,7 @@ fn settled(rules: Rules, n: u16, case: u64) -> Result<[Run; 2], String> {
         return Err(told(text));
     }
     if without_order(&in_turn.group) != without_order(&anyhow.group) {
-        return Err(told("other sets, or other members of a log".to_string()));
+        return Err(told("other sets, or other entries of a log".to_string()));
     }
     for number in 0..anyhow.group.messages.len() {
         owed(&anyhow.group, number).map_err(told)?;
