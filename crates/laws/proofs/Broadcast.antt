@@ -1,11 +1,11 @@
 -- A broadcast, word by word: the next record is as a message just broadcast, and there is one message more.
-use mathlib.Core.Path.{_≡_, _∙_}
+use mathlib.Core.Path.{_≡_, ap, subst, _∙_}
 use mathlib.Core.List.{List, map}
 use Prim.Native.Nat.{ℕ, _+_}
 use borrow.Author.Tests.{ltb-true}
 use Rattle.group.specs.Place.{Field, _≔_}
 use Rattle.group.specs.Place.{N, count, message}
-use Rattle.group.specs.Layout.{Layout, words, fields, inRecord, FieldIn}
+use Rattle.group.specs.Layout.{Layout, words, fields, inRecord, FieldIn, PlaceIn}
 use Rattle.group.specs.Step.{broadcast}
 use Rattle.group.specs.Writes.{fresh}
 use Rattle.group.specs.Promises.{Allowed, after}
@@ -33,4 +33,8 @@ module _ (L : Layout) (b : List ℕ) (who s v : ℕ) (a : Allowed L b (broadcast
 
 pub record-rewritten : (L : Layout) → RecordRewritten L
 record-rewritten L b s a p h z =
-    rw (z .4, z .5) (new-word L b (z .0) (z .1) (z .2) (rw (z .4) at a) (z .3) ((rw (z .5) at h) .1))
+    let asked : Allowed L b (broadcast (z .0) (z .1) (z .2)) = subst (Allowed L b) (z .4) a in
+    let here : PlaceIn L (message (words L b count) (z .3)) = subst (PlaceIn L) (z .5) h in
+    ap (λ s. words L (after L b s) p) (z .4)
+    ∙ ap (words L (after L b (broadcast (z .0) (z .1) (z .2)))) (z .5)
+    ∙ new-word L b (z .0) (z .1) (z .2) asked (z .3) (here .1)
