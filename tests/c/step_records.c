@@ -1,9 +1,9 @@
 /*
  * Calls the proved walk over a caller's own step records, and holds it to the flat form, words_run, on the same steps
- * and banks: some lists chosen, some hundreds drawn. The first check that fails ends the program. An argument is a fault
- * in what the flat form gets, which must be found: with `refused` each list lacks the step that is refused and all after
- * it, so that the answers alone differ, and with `value` one that begins with a broadcast has another value there, so
- * that the banks alone do.
+ * and banks: some lists chosen, some hundreds drawn. The first check that fails ends the program. An argument is a
+ * fault in what the flat form gets, which must be found. With `refused` each list lacks the step that is refused and
+ * all after it, so that the answers alone differ. With `value` a list that begins with a broadcast has another value
+ * there, so that the banks alone do.
  */
 #include <stdio.h>
 #include <stdlib.h>
