@@ -11,11 +11,12 @@ bench:
 	rt check bench
 	bin/run-hex examples/half-the-copies.hex
 
-# every proof from nothing, then the C and Rust tests
+# the gate: layout, every proof from nothing, every edit that must fail, the programs; then each folder of tests/: C,
+# documentation, the scenarios of examples/, valgrind, Rust
 test:
 	bash .ci/run
 
-# compares the archive and the bench with the second implementation on random inputs, for MINUTES
+# compares the archive and the bench with the second implementation on random inputs, for MINUTES but once at least
 soak:
 	bash tests/rust/soak $(SEED) $(MINUTES)
 

@@ -13,7 +13,11 @@ passes() { # passes WHAT: one check more; a script ends where one fails
     echo "$part: $1"
 }
 
-say_count() { # the last line, which the gate takes over
+say_count() { # say_count ALL: the last line, which the gate takes over, if all checks that there are were made
+    [ "$checks" -eq "$1" ] || {
+        echo "$part: $checks checks were made, and $1 are called for"
+        return 1
+    }
     echo "$checks passed, 0 failed"
 }
 
@@ -57,11 +61,12 @@ choose_tools() { # sets compile, the words of the compiler, and emulate, those b
     fi
 }
 
-build_archive() { # build_archive NAME: unless it is there and no file of a crate is newer
-    local library=$staticlib/lib$1.a
-    if [ ! -f "$library" ] || [ -n "$(find crates crates.txt -newer "$library")" ]; then
-        rt staticlib "$1"
-    fi
+is_new() { # is_new FILE: whether it is there and no file of a crate is newer
+    [ -f "$1" ] && [ -z "$(find crates crates.txt -newer "$1")" ]
+}
+
+build_archive() { # build_archive NAME
+    is_new "$staticlib/lib$1.a" || rt staticlib "$1"
 }
 
 each_archive() { # each_archive COMMAND: for the name of each

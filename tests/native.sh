@@ -49,7 +49,7 @@ compile_kept() { # compile_kept OBJECT FLAG..: with the flags that rattle gives,
 }
 
 native_archive() { # native_archive NAME: $libraries/libNAME.a, beside the x86-64 archive where rt leaves it
-    if native; then
+    if native || is_new "$libraries/lib$1.a"; then
         build_archive "$1"
         return
     fi

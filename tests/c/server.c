@@ -8,10 +8,12 @@
  * call does not have are 0.
  *
  * Each call gets a bank, and a list or a buffer, of its own on the heap, of exactly the bytes sent, between guard
- * bytes: where one of these was changed the program aborts. It ends with 0 at the end of its input.
+ * bytes: where one of these was changed the program ends with 2, at the end of its input with 0. The argument `bank` or
+ * `beside` is a fault: each call is followed by a write to the byte after that run, which must be found.
  */
 #include <stdio.h>
 #include <stdlib.h>
+#include <string.h>
 
 #include "loargwen.h"
 #include "words.h"
@@ -121,7 +123,7 @@ static void check_guards(const struct field *field)
         if (field->bytes[i] != guard(i)) {
             fprintf(stderr, "server: guard byte at %ld from the start of what is lent was changed\n",
                     (long)i - (long)field->start);
-            abort();
+            exit(2);
         }
     }
 }
@@ -231,13 +233,17 @@ static void write_answer(const struct answer *answer, const struct field *bank, 
         fail("the answer cannot be written");
 }
 
-static void serve(const struct request *request, size_t shift)
+static void serve(const struct request *request, size_t shift, const char *strayed)
 {
     if (on_words(request))
         shift -= shift % sizeof(uint16_t);
     struct field bank = read_field(request->len, shift);
     struct field beside = read_field(request->beside_len, shift);
     struct answer answer = call(request, &bank, &beside);
+    if (strcmp(strayed, "bank") == 0)
+        bank.bytes[bank.end] ^= 1;
+    if (strcmp(strayed, "beside") == 0)
+        beside.bytes[beside.end] ^= 1;
     check_guards(&bank);
     check_guards(&beside);
     write_answer(&answer, &bank, &beside);
@@ -245,12 +251,12 @@ static void serve(const struct request *request, size_t shift)
     free(beside.bytes);
 }
 
-int main(void)
+int main(int words, char **word)
 {
     struct request request;
     setvbuf(stdin, NULL, _IOFBF, PIPE_BYTES);
     setvbuf(stdout, NULL, _IOFBF, PIPE_BYTES);
     for (size_t made = 0; read_request(&request); made++)
-        serve(&request, made % SHIFTS);
+        serve(&request, made % SHIFTS, words > 1 ? word[1] : "");
     return 0;
 }

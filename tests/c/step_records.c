@@ -1,7 +1,9 @@
 /*
  * Calls the proved walk over a caller's own step records, and holds it to the flat form, words_run, on the same steps
- * and banks: some lists chosen, some hundreds drawn. The first check that fails ends the program. With any argument the
- * flat form gets each list without its last step, which must be found.
+ * and banks: some lists chosen, some hundreds drawn. The first check that fails ends the program. An argument is a
+ * fault in what the flat form gets, which must be found. With `refused` each list lacks the step that is refused and
+ * all after it, so that the answers alone differ. With `value` a list that begins with a broadcast has another value
+ * there, so that the banks alone do.
  */
 #include <stdio.h>
 #include <stdlib.h>
@@ -10,10 +12,10 @@
 #include "words.h"
 
 enum { WORDS = 2244, COUNT = 2, UP = 3, VIEWS = 4, LENGTHS = 20, RECORD = 548, HELD = 3, UNSENT = 21, FLIGHT = 37 };
-enum { CONTROLLERS = 16, MESSAGES = 32, MOST = 40, DRAWN = 400, TRIES = 200 };
+enum { BROADCAST = 1, CONTROLLERS = 16, MESSAGES = 32, MOST = 40, DRAWN = 400, TRIES = 200 };
 
 static uint16_t bank[WORDS];
-static size_t missing; /* of the flat form's steps */
+static const char *fault = "";
 
 static void must(int holds, const char *what)
 {
@@ -48,20 +50,6 @@ static void check_stopped(void)
     must(bank[RECORD + FLIGHT + 1] == 1, "the copy to 1 is in flight from 0");
 }
 
-static void check_refused(void)
-{
-    const struct step crash[] = {{5, 0, 0, 0}};
-    static uint16_t before[WORDS];
-
-    open_group(2, 1);
-    memcpy(before, bank, sizeof bank);
-    struct ran ran = run_steps(bank, WORDS - 1, crash, 1);
-    must(ran.accepted == 0 && ran.refusal == 1, "a bank one word short is unfit");
-    ran = run_steps(bank, WORDS, crash, 0);
-    must(ran.accepted == 0 && ran.refusal == 0, "no steps are done at once");
-    must(memcmp(before, bank, sizeof bank) == 0, "neither changes a word");
-}
-
 static void *copy_of(const void *bytes, size_t length) /* an allocation of its own, of exactly these bytes */
 {
     void *copy = malloc(length > 0 ? length : 1);
@@ -70,21 +58,26 @@ static void *copy_of(const void *bytes, size_t length) /* an allocation of its o
     return memcpy(copy, bytes, length);
 }
 
+static int planted(const char *name)
+{
+    return strcmp(fault, name) == 0;
+}
+
 /* applies the steps as records, and in the flat form to a copy of the bank: both have to answer and leave the same */
 static struct ran as_flat(size_t words, const struct step *steps, size_t count)
 {
     static uint16_t flat_bank[WORDS];
     struct step *records = copy_of(steps, count * sizeof *steps);
     uint16_t *flat = copy_of(steps, count * sizeof *steps);
-    size_t left_out = missing < count ? missing : count;
 
+    if (count > 0 && steps[0].kind == BROADCAST && planted("value"))
+        flat[3] ^= 1;
     memcpy(flat_bank, bank, sizeof bank);
-    struct ran flat_ran = words_run(flat_bank, words, flat, 4 * (count - left_out));
     struct ran ran = run_steps(bank, words, records, count);
+    struct ran flat_ran = words_run(flat_bank, words, flat, 4 * (planted("refused") ? ran.accepted : count));
     free(records);
     free(flat);
-    must(ran.accepted == flat_ran.accepted, "as many steps are accepted as in the flat form");
-    must(ran.refusal == flat_ran.refusal, "the refusal is the flat form's");
+    must(ran.accepted == flat_ran.accepted && ran.refusal == flat_ran.refusal, "the answer is the flat form's");
     must(memcmp(bank, flat_bank, sizeof bank) == 0, "every word of the bank is the flat form's");
     return ran;
 }
@@ -176,10 +169,9 @@ static void check_drawn(void)
 
 int main(int words, char **word)
 {
-    (void)word;
-    missing = words > 1;
+    if (words > 1)
+        fault = word[1];
     check_stopped();
-    check_refused();
     check_chosen();
     check_drawn();
     return 0;

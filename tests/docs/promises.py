@@ -13,6 +13,7 @@ PAGE = Path("docs/PROMISES.md")
 WIDTH = 120
 FIELDS = ["promise", "definition", "determined", "statement", "run", "shuts out", "why", "form", "where"]
 AT_THE_TOP = ["crates", "docs", "examples", "host", "include", "tests"]
+RUST_TESTS = Path("host/rust/tests")
 EDITS = {edit.stem for edit in Path("crates").glob("*/must-fail/*.edit")}
 
 looked = missing = 0
@@ -73,20 +74,26 @@ def rs_names(text):
     return set(re.findall(r"(?m)^ *(?:pub(?:\(\w+\))? )?(?:const |unsafe )*fn (\w+)", text))
 
 
+def rs_tests(text):
+    """The functions that are run as tests: nothing else stands between the attribute and the name."""
+    return set(re.findall(r"(?m)^ *#\[test\]\n *fn (\w+)", text))
+
+
 DECLARED = {".antt": antt_names, ".rt": rt_names, ".rs": rs_names}
 
 
 @cache
 def declared(path):
-    return DECLARED[path.suffix](code(path))
+    names = rs_tests if path.is_relative_to(RUST_TESTS) else DECLARED[path.suffix]
+    return names(code(path))
 
 
 def look_for(text, path, place):
-    """A single name is declared in the file, a line that a program prints is a whole line, other text is there."""
+    """A single name is declared in the file, or a test of it; a printed line is a whole line; other text is there."""
     if path.is_dir():
         wrong(f"{place}: '{text}' has a folder after it: {path}")
     elif path.suffix in DECLARED and re.fullmatch(r"[\w′-]+", text):
-        must(text in declared(path), f"{place}: '{text}' is not declared in {path}")
+        must(text in declared(path), f"{place}: '{text}' is not declared, or no test, in {path}")
     elif path.name == "stdout" or path.suffix == ".out":
         must(text in code(path).splitlines(), f"{place}: no line '{text}' in {path}")
     else:

@@ -3,7 +3,7 @@
 use crate::answer::{Day, LogLength, Ran, Settled};
 use crate::layout;
 use crate::plant::Plant;
-use crate::refusal::{CONTROLLER, DONE, DOWN, RAGGED, UNFIT};
+use crate::refusal::{CONTROLLER, DONE, DOWN, KIND, OPEN_MODE, RAGGED, UNFIT};
 use crate::rules::{Group, Message, Mode, CONTROLLERS, MESSAGES};
 use crate::set::Set;
 use crate::step::Step;
@@ -168,6 +168,9 @@ impl Bank {
         }
         let mut group = match Group::open(n, mode) {
             Ok(group) => group,
+            Err(_) if self.has_fault(Plant::ModeFirst) && Mode::read(mode).is_none() => {
+                return OPEN_MODE;
+            }
             Err(refusal) => return refusal,
         };
         group.plant = self.plant;
@@ -186,6 +189,7 @@ impl Bank {
     pub fn step(&mut self, numbers: [u16; 4]) -> u16 {
         match self.group.as_mut().map(|group| group.step(numbers)) {
             None => UNFIT,
+            Some(Err(KIND)) if self.has_fault(Plant::BadRecord) => RAGGED,
             Some(Err(refusal)) => refusal,
             Some(Ok(step)) => {
                 self.write_back(&[step]);
@@ -220,20 +224,22 @@ impl Bank {
         };
         let (taken, refusal) = group.list(words);
         self.write_back(&taken);
-        let refused = !matches!(refusal, DONE | RAGGED);
         Ran {
-            accepted: taken.len() + usize::from(refused && self.has_fault(Plant::CountRefused)),
+            accepted: taken.len(),
             refusal,
         }
     }
 
     /// Applies a list of step records, as if it were their words.
     pub fn records(&mut self, steps: &[[u16; 4]]) -> Ran {
-        let ran = self.list(steps.as_flattened());
+        let mut ran = self.list(steps.as_flattened());
         if self.has_fault(Plant::GoOn) {
             steps.iter().skip(ran.accepted).for_each(|&step| {
                 self.step(step);
             });
+        }
+        if self.has_fault(Plant::CountRefused) && ran.refusal != DONE {
+            ran.accepted += 1;
         }
         ran
     }
@@ -276,14 +282,15 @@ impl Bank {
     /// Copies the used part of a log into a buffer, as far as it reaches; that part's length.
     pub fn copy_log(&self, who: u16, out: &mut [u16]) -> usize {
         let (log, _) = self.log(who);
-        let missing = usize::from(self.has_fault(Plant::ShortLog));
-        let log = &log[..log.len().saturating_sub(missing)];
         let (copy, rest) = out.split_at_mut(log.len().min(out.len()));
         copy.copy_from_slice(&log[..copy.len()]);
         if self.has_fault(Plant::ClearRest) {
             rest.fill(0);
         }
-        log.len()
+        match self.has_fault(Plant::ShortLog) {
+            true => copy.len(),
+            false => log.len(),
+        }
     }
 
     /// The tally of a controller for a day.

@@ -18,7 +18,7 @@ use crate::rules::Group;
 pub struct Setting<'a> {
     /// The calls under test.
     pub calls: &'a dyn Calls,
-    /// The fault in the model, if any.
+    /// The fault in the model, or in what is lent, if any.
     pub plant: Option<Plant>,
     /// The seed of the whole comparison.
     pub seed: u64,
@@ -30,6 +30,7 @@ pub struct Setting<'a> {
 pub struct Contest<'a> {
     calls: &'a dyn Calls,
     model: Bank,
+    plant: Option<Plant>,
     bank: Field<u8>,
     guard: usize,
     /// Guards around words that the last call changed, a line each.
@@ -51,6 +52,7 @@ impl<'a> Contest<'a> {
         Contest {
             calls: setting.calls,
             model: Bank::planted(bytes, setting.plant),
+            plant: setting.plant,
             bank: Field::new(bytes, guard + shift.min(guard), guard),
             guard,
             strayed: String::new(),
@@ -140,7 +142,7 @@ impl<'a> Contest<'a> {
         self.check(|| format!("log length {who}"), want, got)
     }
 
-    /// Copies a log on both sides into a buffer of so many words. What comes over must stand in the bank.
+    /// Copies a log on both sides into a buffer of so many words.
     pub fn log(&mut self, who: u16, room: usize) -> Result<(), String> {
         let before: Vec<u16> = (0..room).map(|place| 60_000 + place as u16).collect();
         let mut buffer = before.clone();
@@ -148,18 +150,7 @@ impl<'a> Contest<'a> {
         let got = self.on_words(&before, |calls, bank, out| calls.log(bank, who, out));
         self.figures.answer("log", length as u16);
         let call = || format!("log {who} into {room} words");
-        let (length, copy) = self.check(call, (length, buffer), got)?;
-        match self.holds_log(who, &copy[..length.min(room)]) {
-            true => Ok(()),
-            false => Err(format!("{}: not what the bank holds\n", call())),
-        }
-    }
-
-    /// Whether the bank's own words begin a log with these entries.
-    fn holds_log(&self, who: u16, entries: &[u16]) -> bool {
-        let words = words_of(self.bank.lent());
-        let log = words.get(layout::log(usize::from(who))..);
-        entries.is_empty() || log.is_some_and(|log| log.starts_with(entries))
+        self.check(call, (length, buffer), got).map(drop)
     }
 
     /// Makes a call on the bank's words and more words lent beside them, each between guards of their own; the bank's
@@ -174,6 +165,11 @@ impl<'a> Contest<'a> {
         let mut beside = Field::new(beside, before, self.guard);
         let answer = call(self.calls, bank.lent_mut(), beside.lent_mut());
         self.bank.lent_mut().copy_from_slice(&bytes_of(bank.lent()));
+        match self.plant {
+            Some(Plant::PastWords) => bank.stray(),
+            Some(Plant::PastBeside) => beside.stray(),
+            _ => {}
+        }
         self.strayed = strayed("word", "bank", &bank) + &strayed("word", "list or buffer", &beside);
         (answer, beside.lent().to_vec())
     }
@@ -188,7 +184,10 @@ impl<'a> Contest<'a> {
     ) -> Result<(), String> {
         self.figures.answer(call, want.refusal);
         self.figures.listed += want.accepted as u64;
-        let want = (want, steps.to_vec());
+        let want = match self.plant {
+            Some(Plant::ClearList) => (want, vec![0; steps.len()]),
+            _ => (want, steps.to_vec()),
+        };
         self.check(|| call.to_string(), want, got).map(drop)
     }
 
@@ -200,6 +199,9 @@ impl<'a> Contest<'a> {
         got: T,
     ) -> Result<T, String> {
         self.made += 1;
+        if self.plant == Some(Plant::PastBank) {
+            self.bank.stray();
+        }
         let strayed = std::mem::take(&mut self.strayed) + &strayed("byte", "bank", &self.bank);
         if want == got && self.bank.lent() == self.model.bytes() && strayed.is_empty() {
             return Ok(want);

@@ -31,6 +31,13 @@ impl<T: Copy + PartialEq + From<u8>> Field<T> {
         &mut self.whole[self.start..self.end]
     }
 
+    /// Changes the guard after what is lent, as a call would that writes past the end.
+    pub fn stray(&mut self) {
+        if let Some(after) = self.whole.get_mut(self.end) {
+            *after = guard(self.end + 1);
+        }
+    }
+
     /// The guards that were changed, by their places from the start of what is lent.
     pub fn changed(&self) -> Vec<i64> {
         let around = (0..self.start).chain(self.end..self.whole.len());

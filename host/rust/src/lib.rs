@@ -10,7 +10,7 @@
 //! - `served`: the same in a process of its own, for machines that the archives are not made for;
 //! - `contest`, `cases`, `figures`: one call made on both sides, and whole cases of calls;
 //! - `field`, `crossing`: what is lent to the calls under test, between guards, as bytes or words;
-//! - `plant`: faults that can be planted in the rules, which a comparison has to find;
+//! - `plant`: faults that can be planted in the rules or in what is lent, which a comparison has to find;
 //! - `args`, `measure`: what the programs share.
 //!
 //! Programs: `compare` (the archive, random calls), `files` (the bench, random files), `benchmark`

@@ -1,6 +1,6 @@
-//! Faults that can be planted in the rules, so that a comparison can show it finds them.
+//! Faults that can be planted in the rules, or in what is lent, so that a comparison can show it finds them.
 
-/// A small fault in the rules.
+/// A small fault.
 #[derive(Clone, Copy, PartialEq, Eq, Debug)]
 pub enum Plant {
     /// Half the acknowledgements pass for a majority.
@@ -21,25 +21,37 @@ pub enum Plant {
     Order,
     /// A set word that changes loses its bits of N and above.
     HighBits,
-    /// A list counts the step that it was refused.
+    /// Opening tests the mode before N.
+    ModeFirst,
+    /// A step of no known kind is refused as a bad record is.
+    BadRecord,
+    /// A list of step records counts the step that it was refused.
     CountRefused,
     /// That a list is ragged is tested before the bank.
     RaggedFirst,
+    /// A list is cleared when it has been applied.
+    ClearList,
     /// A list of step records goes on after a refused step.
     GoOn,
     /// Asked about a step of one that is down, the next number that applies is given.
     NextNumber,
     /// The log of a controller of N or more is refused as if the bank were unfit.
     StrangerUnfit,
-    /// A log that is copied lacks its last entry.
+    /// A log that a buffer is too short for is said to be as long as that.
     ShortLog,
     /// The words of a buffer after a log that is copied into it are cleared.
     ClearRest,
+    /// The byte after a bank is changed.
+    PastBank,
+    /// The word after a bank lent as words is changed.
+    PastWords,
+    /// The word after a list or a buffer is changed.
+    PastBeside,
 }
 
 impl Plant {
     /// Every fault with the name it has on a command line.
-    pub const ALL: [(&'static str, Plant); 16] = [
+    pub const ALL: [(&'static str, Plant); 22] = [
         ("half", Plant::Half),
         ("own-ack", Plant::OwnAck),
         ("clear-flight", Plant::ClearFlight),
@@ -49,13 +61,19 @@ impl Plant {
         ("budget", Plant::Budget),
         ("order", Plant::Order),
         ("high-bits", Plant::HighBits),
+        ("mode-first", Plant::ModeFirst),
+        ("bad-record", Plant::BadRecord),
         ("count-refused", Plant::CountRefused),
         ("ragged-first", Plant::RaggedFirst),
+        ("clear-list", Plant::ClearList),
         ("go-on", Plant::GoOn),
         ("next-number", Plant::NextNumber),
         ("stranger-unfit", Plant::StrangerUnfit),
         ("short-log", Plant::ShortLog),
         ("clear-rest", Plant::ClearRest),
+        ("past-bank", Plant::PastBank),
+        ("past-words", Plant::PastWords),
+        ("past-beside", Plant::PastBeside),
     ];
 
     /// The fault of that name.

@@ -121,11 +121,12 @@ fn days_end_at_682() {
 }
 
 #[test]
-fn a_sum_may_need_22_bits() {
+fn a_sum_may_need_21_bits() {
     let mut group = group(1, 2, &[[1, 0, 3, 65_535]; 32]);
     assert_eq!(settle(&mut group, 96), (96, true));
     let tally = group.tally(0, 0).expect("a day");
     assert_eq!((tally.count, tally.sum), (32, 32 * 65_535));
+    assert_eq!(tally.sum.ilog2(), 20);
 }
 
 #[test]

@@ -29,6 +29,23 @@ fn a_process_that_ends_early_is_told() {
     assert!(served.finish().is_err());
 }
 
+/// What is told of a call to `cat`, which answers with the request itself: all that is lent comes back changed.
+fn echoed(call: impl FnOnce(&Served) -> u16) -> String {
+    let served = Served::start("cat").expect("a process");
+    assert_eq!(call(&served), FAILED);
+    served.failure().expect("a failure")
+}
+
+#[test]
+fn what_is_only_read_must_come_back_as_it_was() {
+    let (bank, mut words) = (vec![0; layout::BYTES], vec![0; layout::WORDS]);
+    let told = echoed(|served| served.tally(&bank, 0, 0).refusal);
+    assert!(told.starts_with("call 4 changed what it only reads"));
+    assert!(told.ends_with("it wrote more than was asked for"));
+    let told = echoed(|served| served.run(&mut words, &[5; 4]).refusal);
+    assert!(told.starts_with("call 5 changed its list"));
+}
+
 #[test]
 fn a_process_that_was_not_asked_ends_well() {
     let served = Served::start("cat").expect("a process");

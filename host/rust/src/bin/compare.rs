@@ -17,7 +17,7 @@ const USAGE: &str =
   runs cases until STEPS single steps were compared and, with --minutes, until time is up;
   --case runs that case alone, --only those of one name (spoilt, 'unfit log', days, ...);
   --guard 0 makes each bank an allocation of its own, for valgrind (64 else);
-  --plant puts a fault into the model, which must be found;
+  --plant puts a fault into the model, or into what is lent, which must be found;
   --served calls the archive in the process of COMMAND, one word split at blanks, not the linked one
 exit status: 0 no difference, 1 a difference, 2 the comparison could not be made";
 const FLAGS: [&str; 6] = ["minutes", "case", "only", "guard", "plant", "served"];
