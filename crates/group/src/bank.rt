@@ -8,7 +8,7 @@ ghost use Rattle.group.specs.Layout.{paper, size, words, recordAt, addre
 ghost use Rattle.group.specs.Fit;
 ghost use Rattle.group.specs.Fit.{isSize, isMode, logFits};
 ghost use Rattle.group.specs.Opening.{opened, views};
-ghost use Rattle.group.specs.Numbers.{limits, header, tables, records, recordHead, recordSets, controllerSets};
+ghost use Rattle.group.specs.Numbers.{numbers};
 
 // A bank is a run of words that the caller lends; this type carries the numbers of its layout.
 pub struct Bank {}
@@ -57,44 +57,34 @@ impl Bank {
     pub const IN_FLIGHT: usize = 37;
 }
 
-// The constants are the layout's own numbers.
-fn tied()
-    ensures { λ _. do
-      controllers ← ⟦Bank::CONTROLLERS⟧ .entry
-      messages ← ⟦Bank::MESSAGES⟧ .entry
-      words ← ⟦Bank::WORDS⟧ .entry
-      ⌜ controllers ∷ messages ∷ words ∷ [] ≡ limits ⌝ }
-    ensures { λ _. do
-      n ← ⟦Bank::N⟧ .entry
-      mode ← ⟦Bank::MODE⟧ .entry
-      count ← ⟦Bank::COUNT⟧ .entry
-      up ← ⟦Bank::UP⟧ .entry
-      ⌜ n ∷ mode ∷ count ∷ up ∷ [] ≡ header ⌝ }
-    ensures { λ _. do
-      views ← ⟦Bank::VIEWS⟧ .entry
-      lengths ← ⟦Bank::LENGTHS⟧ .entry
-      logs ← ⟦Bank::LOGS⟧ .entry
-      log ← ⟦Bank::LOG⟧ .entry
-      ⌜ views ∷ lengths ∷ logs ∷ log ∷ [] ≡ tables ⌝ }
-    ensures { λ _. do
-      first ← ⟦Bank::RECORDS⟧ .entry
-      size ← ⟦Bank::RECORD⟧ .entry
-      ⌜ first ∷ size ∷ [] ≡ records ⌝ }
-    ensures { λ _. do
-      sender ← ⟦Bank::SENDER⟧ .entry
-      stamp ← ⟦Bank::STAMP⟧ .entry
-      value ← ⟦Bank::VALUE⟧ .entry
-      ⌜ sender ∷ stamp ∷ value ∷ [] ≡ recordHead ⌝ }
-    ensures { λ _. do
-      held ← ⟦Bank::HELD⟧ .entry
-      delivered ← ⟦Bank::DELIVERED⟧ .entry
-      ⌜ held ∷ delivered ∷ [] ≡ recordSets ⌝ }
-    ensures { λ _. do
-      acked ← ⟦Bank::ACKED⟧ .entry
-      unsent ← ⟦Bank::UNSENT⟧ .entry
-      flight ← ⟦Bank::IN_FLIGHT⟧ .entry
-      ⌜ acked ∷ unsent ∷ flight ∷ [] ≡ controllerSets ⌝ }
-{}
+// Nobody calls it: its contract ties the constants to the layout's own numbers.
+fn numbers() -> [usize; 21]
+    ensures { λ r. ⌜ r ≡ numbers ⌝ }
+{
+    [
+        Bank::CONTROLLERS as usize,
+        Bank::MESSAGES as usize,
+        Bank::WORDS,
+        Bank::N,
+        Bank::MODE,
+        Bank::COUNT,
+        Bank::UP,
+        Bank::VIEWS,
+        Bank::LENGTHS,
+        Bank::LOGS,
+        Bank::LOG,
+        Bank::RECORDS,
+        Bank::RECORD,
+        Bank::SENDER,
+        Bank::STAMP,
+        Bank::VALUE,
+        Bank::HELD,
+        Bank::DELIVERED,
+        Bank::ACKED,
+        Bank::UNSENT,
+        Bank::IN_FLIGHT,
+    ]
+}
 
 // Where message m's record begins.
 pub(crate) fn record_at(m: u16) -> usize
