@@ -1,6 +1,5 @@
 // The bank: its numbers, what makes it unfit, and its opening. Reads the header and the log lengths alone.
 ghost use mathlib.Core.Path.{_≡_};
-ghost use mathlib.Core.List.{[], _∷_};
 ghost use Prim.Native.Nat.{_≤_};
 ghost use lib.ListN.{length, replicate};
 ghost use Rattle.sets.specs.Set.{every};
