@@ -2,9 +2,10 @@
  * loargwen.h: a group of up to 16 chamber controllers that broadcast readings and orders to each other. Once it has
  * settled, in all-ack mode, or in majority mode with more than half of the controllers up, a message that any of them
  * has acted on, also one that is down by now, stands exactly once in the log of every controller that is up; so does
- * every message whose sender is up. In majority mode with half of the controllers up or fewer, logs may differ.
+ * every message whose sender is up. In majority mode with half of the controllers up or fewer, a message may stand in
+ * one such log and not in another. The order inside two logs may always differ.
  *
- * Link libloargwen.a: where it was installed `pkg-config loargwen` says how, and in the repository
+ * Link libloargwen.a: where it was installed `pkg-config --cflags --libs loargwen` says how, and in the repository
  * `rt staticlib loargwen` makes target/staticlib/libloargwen.a. It is code for x86-64 Linux.
  *
  * The whole state of a group is its bank: LOARGWEN_BANK_BYTES bytes of yours, at any address. Each call takes the
@@ -25,19 +26,22 @@
  *   - a controller that is down stays down; the number of controllers and the mode stay;
  *   - a log only grows at its end; it holds messages that were broadcast, none twice, and their records hold the
  *     senders' own stamps and values;
- *   - the group settles: loargwen_settle with a budget of 65535 leaves no step. In whatever other order the steps that
- *     are left are taken, by loargwen_step, the group settles after equally many of them, with the same sets and the
- *     same logs but for the order inside each;
- *   - so the first sentences hold: of what was acted on at any moment since that open. Settled means that no send,
- *     receipt, detect or delivery is left: loargwen_settle then answers quiet.
+ *   - the group settles: loargwen_settle with a budget of 65535 leaves no send, receipt, detect or delivery. In
+ *     whatever other order these are taken, by loargwen_step, the group settles after equally many of them, with the
+ *     same sets and the same logs but for the order inside each;
+ *   - so the first sentences hold: of what was acted on at any moment since that open. Settled means that none of these
+ *     steps is left: loargwen_settle then answers quiet.
  *
  * Both lists are proved of the code as it is written, with the definitions in the repository: docs/PROMISES.md says
- * where. That the compiled library does the same, and that this header fits it, is tested. A bank that was put back is
- * one that these calls led to up to the moment when it was saved.
+ * where; but that loargwen_tally, which may only read the bank, leaves it as it is rests on its type. That the compiled
+ * library does the same, and that this header fits it, is tested. A bank that was put back is one that these calls led
+ * to up to the moment when it was saved: what was acted on since then need be in no log, and numbers of messages are
+ * given again.
  *
  * A bank is unfit, and every call but loargwen_open refuses it with LOARGWEN_UNFIT, when it is not LOARGWEN_BANK_BYTES
  * long or its bytes cannot be a group's: a wrong number of controllers, an unknown mode, more than 32 messages, or a
- * log longer than there are messages. Somebody else has then written to it: put a saved bank back, or open anew.
+ * log of one of its controllers longer than there are messages. It was never opened, or somebody else has written to
+ * it: open it, or put a saved bank back. A bank that somebody spoilt need not be unfit.
  *
  * In the bank each number is two bytes, the low one first. Controller i's log has as many entries as the number at byte
  * 40 + 2*i says, from byte 72 + 64*i on; an entry is a message's number. A bank has room for 32 messages; for more the
@@ -68,7 +72,7 @@ enum loargwen_mode {
 enum loargwen_kind {
     LOARGWEN_BROADCAST = 1, /* [who, stamp, value] the next message; who must then send it to all, itself included */
     LOARGWEN_SEND = 2,      /* [from, to, message] the copy leaves; it may go to a controller that is down */
-    LOARGWEN_RECEIVE = 3,   /* [at, from, message] the copy arrives; the first time, at must then send it to all */
+    LOARGWEN_RECEIVE = 3,   /* [at, from, message] the copy arrives; at, if it did not hold it, must send it to all */
     LOARGWEN_DELIVER = 4,   /* [at, message] at acts on the message: it joins at's log */
     LOARGWEN_CRASH = 5,     /* [who] who is down from now on; what it has sent stays on its way */
     LOARGWEN_DETECT = 6,    /* [at, of] at no longer waits for of, which must be down; all-ack only */
@@ -81,9 +85,10 @@ enum loargwen_kind {
  */
 enum loargwen_refusal {
     LOARGWEN_DONE = 0,
-    LOARGWEN_UNFIT = 1,          /* the bank is unfit. A deliver answers it too, after all other tests, where the log is
-                                    full; a tally where the log has a number that is no message. No bank that
-                                    loargwen_open wrote and only the calls below changed comes to any of these. */
+    LOARGWEN_UNFIT = 1,          /* the bank is unfit. A deliver answers it too, after all other tests, where the log
+                                    has as many entries as there are messages; a tally where it has one that is no
+                                    message. No bank that loargwen_open wrote and only the calls below changed comes
+                                    to any of these. */
     LOARGWEN_NO_STEP = 2,        /* the kind is not 1 to 7, or a number that the kind does not use is not 0 */
     LOARGWEN_NO_CONTROLLER = 3,  /* a controller's number is not below the number of controllers */
     LOARGWEN_NO_MESSAGE = 4,     /* a message's number has not been given yet */
@@ -115,7 +120,8 @@ uint16_t loargwen_step(uint8_t *bank, size_t len, uint16_t kind, uint16_t a, uin
 /*
  * Takes steps for the group, at most `budget`, until none is left: detects, then message by message sends, receipts and
  * deliveries, always the first that nothing refuses, from the lowest numbers. It never broadcasts, crashes or loses.
- * `quiet` is 1 where no such step is left afterwards, also where the budget was just enough, and else 0: call again.
+ * `quiet` is 1 where no such step is left afterwards, also where the budget was just enough, and else 0: where it was
+ * not refused, call again with a budget above 0.
  * A group opened with n controllers that has broadcast c messages takes at most 2*n*n*c + n*c + n*(n-1) of these steps
  * in its life, 17,136 at the most; any other bank that is fit takes at most 41,712. So a budget of 65535 leaves none.
  * Refusal: LOARGWEN_UNFIT; steps and quiet are then 0.

@@ -3,6 +3,7 @@
 # name of the tests.
 
 archives=(loargwen step_records word_face)
+headers=include
 staticlib=target/staticlib
 built=target/tests
 warnings=(-Wall -Wextra -Werror)
@@ -44,6 +45,16 @@ install_packages() { # install_packages PACKAGE..
     { apt-get update -q && DEBIAN_FRONTEND=noninteractive apt-get install -qy --no-install-recommends "$@"; } >&2
 }
 
+choose_emulator() { # sets emulate, the words before a program of x86-64 code
+    local libraries=/usr/x86_64-linux-gnu
+    emulate=()
+    native || {
+        { have qemu-x86_64-static && [ -f "$libraries/lib/libc.so.6" ]; } ||
+            install_packages qemu-user-static libc6-amd64-cross
+        emulate=(qemu-x86_64-static -L "$libraries")
+    }
+}
+
 choose_own_tools() { # as choose_tools, for programs of this machine's own code
     have cc || install_packages gcc libc6-dev
     compile=(cc)
@@ -54,10 +65,9 @@ choose_tools() { # sets compile, the words of the compiler, and emulate, those b
     if native; then
         choose_own_tools
     else
-        have x86_64-linux-gnu-gcc qemu-x86_64-static ||
-            install_packages gcc-x86-64-linux-gnu libc6-dev-amd64-cross qemu-user-static
+        choose_emulator
+        have x86_64-linux-gnu-gcc || install_packages gcc-x86-64-linux-gnu libc6-dev-amd64-cross
         compile=(x86_64-linux-gnu-gcc -static)
-        emulate=(qemu-x86_64-static -L /usr/x86_64-linux-gnu)
     fi
 }
 
@@ -74,11 +84,11 @@ each_archive() { # each_archive COMMAND: for the name of each
     for name in "${archives[@]}"; do "$1" "$name"; done
 }
 
-link_c() { # link_c SOURCE PROGRAM FOLDER NAME..: compiles a C program with archives of a folder
+link_c() { # link_c SOURCE PROGRAM FOLDER NAME..: compiles a C program with $headers and archives of a folder
     local source=$1 program=$2 folder=$3
     shift 3
     mkdir -p "$built"
-    "${compile[@]}" -O2 -g "${warnings[@]}" -I include "$source" -L "$folder" "${@/#/-l}" -o "$program"
+    "${compile[@]}" -O2 -g "${warnings[@]}" -I "$headers" "$source" -L "$folder" "${@/#/-l}" -o "$program"
 }
 
 build_server() {
