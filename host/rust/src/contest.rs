@@ -11,7 +11,7 @@ use crate::figures::Figures;
 use crate::layout;
 use crate::plant::Plant;
 use crate::random::Random;
-use crate::refusal::DONE;
+use crate::refusal::{DONE, UNFIT};
 use crate::rules::Group;
 
 /// What a comparison runs on.
@@ -33,8 +33,10 @@ pub struct Contest<'a> {
     plant: Option<Plant>,
     bank: Field<u8>,
     guard: usize,
-    /// Guards around words that the last call changed, a line each.
-    strayed: String,
+    /// Whether a group was opened on these bytes, which calls alone have changed since.
+    opened: bool,
+    /// What the last call did that no call may, whatever the model says, a line each.
+    wrong: String,
     made: u64,
     figures: &'a mut Figures,
 }
@@ -55,7 +57,8 @@ impl<'a> Contest<'a> {
             plant: setting.plant,
             bank: Field::new(bytes, guard + shift.min(guard), guard),
             guard,
-            strayed: String::new(),
+            opened: setting.plant == Some(Plant::AsOpened),
+            wrong: String::new(),
             made: 0,
             figures,
         }
@@ -75,7 +78,8 @@ impl<'a> Contest<'a> {
     pub fn open(&mut self, n: u16, mode: u16) -> Result<u16, String> {
         let want = self.model.open(n, mode);
         let got = self.calls.open(self.bank.lent_mut(), n, mode);
-        self.figures.answer("open", want);
+        self.answered("open", want);
+        self.opened |= want == DONE;
         self.check(|| format!("open {n} {mode}"), want, got)
     }
 
@@ -83,7 +87,7 @@ impl<'a> Contest<'a> {
     pub fn step(&mut self, step: Record) -> Result<u16, String> {
         let want = self.model.step(step);
         let got = self.calls.step(self.bank.lent_mut(), step);
-        self.figures.answer("step", want);
+        self.answered("step", want);
         if want == DONE {
             *self.figures.kinds.entry(step[0]).or_default() += 1;
         }
@@ -94,7 +98,7 @@ impl<'a> Contest<'a> {
     pub fn settle(&mut self, budget: u16) -> Result<Settled, String> {
         let want = self.model.settle(budget);
         let got = self.calls.settle(self.bank.lent_mut(), budget);
-        self.figures.answer("settle", want.refusal);
+        self.answered("settle", want.refusal);
         self.figures.settled += u64::from(want.steps);
         self.figures.quiet += u64::from(want.quiet);
         self.figures.longest = self.figures.longest.max(want.steps);
@@ -105,7 +109,7 @@ impl<'a> Contest<'a> {
     pub fn tally(&mut self, who: u16, day: u16) -> Result<Day, String> {
         let want = self.model.tally(who, day);
         let got = self.calls.tally(self.bank.lent(), who, day);
-        self.figures.answer("tally", want.refusal);
+        self.answered("tally", want.refusal);
         self.check(|| format!("tally {who} {day}"), want, got)
     }
 
@@ -130,7 +134,7 @@ impl<'a> Contest<'a> {
     pub fn refusal(&mut self, step: Record) -> Result<u16, String> {
         let want = self.model.refusal(step);
         let (got, _) = self.on_words(&[], |calls, bank, _| calls.refusal(bank, step));
-        self.figures.answer("refusal", want);
+        self.answered("refusal", want);
         self.check(|| format!("refusal {step:?}"), want, got)
     }
 
@@ -138,7 +142,7 @@ impl<'a> Contest<'a> {
     pub fn log_length(&mut self, who: u16) -> Result<LogLength, String> {
         let want = self.model.log_length(who);
         let (got, _) = self.on_words(&[], |calls, bank, _| calls.log_length(bank, who));
-        self.figures.answer("log length", want.refusal);
+        self.answered("log length", want.refusal);
         self.check(|| format!("log length {who}"), want, got)
     }
 
@@ -151,6 +155,14 @@ impl<'a> Contest<'a> {
         self.figures.answer("log", length as u16);
         let call = || format!("log {who} into {room} words");
         self.check(call, (length, buffer), got).map(drop)
+    }
+
+    /// Counts a call's refusal. No bank on which a group was opened is ever found unfit, and no log of it spoilt.
+    fn answered(&mut self, call: &'static str, refusal: u16) {
+        self.figures.answer(call, refusal);
+        if self.opened && refusal == UNFIT {
+            self.wrong += "  a group that was opened was found unfit\n";
+        }
     }
 
     /// Makes a call on the bank's words and more words lent beside them, each between guards of their own; the bank's
@@ -170,7 +182,8 @@ impl<'a> Contest<'a> {
             Some(Plant::PastBeside) => beside.stray(),
             _ => {}
         }
-        self.strayed = strayed("word", "bank", &bank) + &strayed("word", "list or buffer", &beside);
+        self.wrong += &strayed("word", "bank", &bank);
+        self.wrong += &strayed("word", "list or buffer", &beside);
         (answer, beside.lent().to_vec())
     }
 
@@ -182,7 +195,7 @@ impl<'a> Contest<'a> {
         want: Ran,
         got: (Ran, Vec<u16>),
     ) -> Result<(), String> {
-        self.figures.answer(call, want.refusal);
+        self.answered(call, want.refusal);
         self.figures.listed += want.accepted as u64;
         let want = match self.plant {
             Some(Plant::ClearList) => (want, vec![0; steps.len()]),
@@ -202,14 +215,14 @@ impl<'a> Contest<'a> {
         if self.plant == Some(Plant::PastBank) {
             self.bank.stray();
         }
-        let strayed = std::mem::take(&mut self.strayed) + &strayed("byte", "bank", &self.bank);
-        if want == got && self.bank.lent() == self.model.bytes() && strayed.is_empty() {
+        let wrong = std::mem::take(&mut self.wrong) + &strayed("byte", "bank", &self.bank);
+        if want == got && self.bank.lent() == self.model.bytes() && wrong.is_empty() {
             return Ok(want);
         }
         let mut text = format!("call {}: {}\n", self.made, call());
         text += &format!("  answer: model {want:?}, tested {got:?}\n");
         text += &differing(self.model.bytes(), self.bank.lent());
-        Err(text + &strayed)
+        Err(text + &wrong)
     }
 }
 

@@ -41,6 +41,8 @@ pub enum Plant {
     ShortLog,
     /// The words of a buffer after a log that is copied into it are cleared.
     ClearRest,
+    /// Every bank counts as one on which a group was opened.
+    AsOpened,
     /// The byte after a bank is changed.
     PastBank,
     /// The word after a bank lent as words is changed.
@@ -51,7 +53,7 @@ pub enum Plant {
 
 impl Plant {
     /// Every fault with the name it has on a command line.
-    pub const ALL: [(&'static str, Plant); 22] = [
+    pub const ALL: [(&'static str, Plant); 23] = [
         ("half", Plant::Half),
         ("own-ack", Plant::OwnAck),
         ("clear-flight", Plant::ClearFlight),
@@ -71,6 +73,7 @@ impl Plant {
         ("stranger-unfit", Plant::StrangerUnfit),
         ("short-log", Plant::ShortLog),
         ("clear-rest", Plant::ClearRest),
+        ("as-opened", Plant::AsOpened),
         ("past-bank", Plant::PastBank),
         ("past-words", Plant::PastWords),
         ("past-beside", Plant::PastBeside),
