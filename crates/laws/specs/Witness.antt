@@ -1,5 +1,6 @@
--- Demand 3 speaks of something: the logs of the worked example follow from it, in both modes and by whatever order; and
--- its quorum is needed, since without one two controllers that are up may keep different logs.
+-- Demand 3 speaks of something: the logs of the worked example follow from it and a few steps that bring one controller
+-- to deliver, in both modes and by whatever order; and its quorum is needed, since without one two controllers that are
+-- up may keep different logs.
 use Prim.Native.Nat.{ℕ}
 use mathlib.Core.Path.{_≡_}
 use mathlib.Core.Bool.{true}
