@@ -90,7 +90,7 @@ always-ends =
       enough = quiet-within;
       rises = λ n n′ c c′ l k. any-rises l k;
       fullest = any-full-bank;
-      u16-always-enough = u16-always-enough;
+      u16-always-enough = λ b f. quiet-within paper b f _ (omega (arith, full b f));
       one-call = one-call;
       one-c-call = one-c-call;
     }

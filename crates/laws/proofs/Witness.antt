@@ -4,6 +4,7 @@ use mathlib.Core.Bool.{Bool, true, _&&_}
 use mathlib.Core.Logic.{_⊎_, inl, inr, ⊎-elim}
 use mathlib.Core.List.{List, [], _∷_, _++_}
 use Prim.Native.Nat.{ℕ, _*_, _<_}
+use native.Mathlib.Nat.{zero-add}
 use native.Mathlib.Omega.{arith}
 use lib.ListN.{length}
 use borrow.Author.Tests.{eq-eqb, eqb-true}
@@ -11,7 +12,7 @@ use Rattle.sets.specs.Set.{has, with, without, allBelow, cut, withAll, every, w
 use Rattle.sets.proofs.Tests.{both}
 use Rattle.group.specs.Place.{count, log, message, delivered}
 use Rattle.group.specs.Layout.{Layout, paper, words, fields}
-use Rattle.group.specs.Fit.{Fit, allAck}
+use Rattle.group.specs.Fit.{Fit, isMode, allAck}
 use Rattle.group.specs.Opening.{opened}
 use Rattle.group.specs.Step.{Step, send, receive, deliver, detect}
 use Rattle.group.specs.Refusals.{enough, isUp, hasDelivered}
@@ -27,9 +28,12 @@ use Rattle.laws.specs.Runs.{Run, done, next, Settling, settles, most}
 use Rattle.laws.specs.Logs.{occurs}
 use Rattle.laws.specs.Demand.{Reached, Finished, Quorum}
 use Rattle.laws.specs.Demand3.{Demand3}
+use Rattle.laws.specs.Calls.{asksFirst}
+use Rattle.laws.specs.Table.{halfSent}
 use Rattle.laws.specs.Witness.{workedSteps, WorkedLogs, partedRun, partedEnd, QuorumNeeded}
 use Rattle.laws.proofs.Onward.{go-on, plain-run}
 use Rattle.laws.proofs.Ends.{reached-on}
+use Rattle.laws.proofs.Listed.{run-leads}
 use Rattle.laws.proofs.Demand3.{demand-3}
 
 -- ---- steps that are taken one by one, by computing
@@ -117,11 +121,13 @@ module _ (k : ℕ) (es : List Step) where
   abbrev actedBank : List ℕ
   actedBank = afterAll paper sentBank es
 
-  -- es bring 1 to deliver; there is one message, 1 and 2 are up, and they are a quorum
+  -- the four steps were accepted, and es bring 1 to deliver; there is one message, 1 and 2 are up and are a quorum
   record Acts : Type 0 where
     free : allFree paper sentBank es ≡ true
     acted : hasDelivered (words paper actedBank) 1 0 ≡ true
     given : (words paper sentBank count ≡ 1) × (words paper actedBank count ≡ 1)
+    known : isMode k ≡ true
+    accepted : runOf paper (opened paper 3 k) halfSent .accepted ≡ 4
     ups : (isUp (words paper sentBank) 1 ≡ true) × (isUp (words paper sentBank) 2 ≡ true)
     quorum : Quorum paper sentBank
 
@@ -148,16 +154,37 @@ module _ (k : ℕ) (es : List Step) where
         let ms = logOf paper x j in
         zero-alone ms (λ m. only j m l) (length-of-zeros ms (λ m. only j m l) ∙ once j u)
 
+  -- as the list that asks for them leaves it
+  abbrev listBank : List ℕ
+  listBank = runOf paper (opened paper 3 k) halfSent .bank
+
+  sent : Acts → Reached paper 3 k workedSteps listBank
+  sent a =
+      let h = run-leads paper (opened paper 3 k) halfSent in
+      let four : h .more ≡ 4 = sym (zero-add _) ∙ sym (h .counted) ∙ a .accepted in
+      record {
+        sized = refl;
+        known = a .known;
+        run =
+            subst (λ t. Run (Allowed paper) (after paper) (opened paper 3 k) (asksFirst t halfSent) listBank) four
+            (h .run);
+      }
+
   worked : Acts → WorkedLogs k
-  worked a b x fs r p =
-      let e = run-ends paper (r .run) in
-      let r₀ = subst (Reached paper 3 k workedSteps) e r in
-      let p₀ = subst (λ b. Finished paper b fs x) e p in
-      (log-is a r₀ p₀ 1 (omega arith) (a .ups .0), log-is a r₀ p₀ 2 (omega arith) (a .ups .1))
+  worked a =
+      record {
+        accepted = sent a;
+        logs = λ b x fs r p.
+            (let e = run-ends paper (r .run) in
+            let r₀ = subst (Reached paper 3 k workedSteps) e r in
+            let p₀ = subst (λ b. Finished paper b fs x) e p in
+            (log-is a r₀ p₀ 1 (omega arith) (a .ups .0), log-is a r₀ p₀ 2 (omega arith) (a .ups .1)));
+      }
 
 -- 1 hears from itself and, in all-ack, from 2, and knows that 0 is down; in majority two of three are enough
 pub worked-all-ack : WorkedLogs 1
-unfolding has with without allBelow cut withAll every within howMany countBelow fields opened enough
+unfolding has with without allBelow cut withAll every within howMany countBelow fields opened enough refusalOf stepOf
+    runFrom runOf
 worked-all-ack =
     worked 1
     (detect 1 0
@@ -170,13 +197,30 @@ worked-all-ack =
     ∷ receive 1 2 0
     ∷ deliver 1 0
     ∷ [])
-    (record { free = refl; acted = refl; given = (refl, refl); ups = (refl, refl); quorum = inl refl })
+    (record {
+      free = refl;
+      acted = refl;
+      given = (refl, refl);
+      known = refl;
+      accepted = refl;
+      ups = (refl, refl);
+      quorum = inl refl;
+    })
 
 pub worked-majority : WorkedLogs 2
-unfolding has with without allBelow cut withAll every within howMany countBelow fields opened enough
+unfolding has with without allBelow cut withAll every within howMany countBelow fields opened enough refusalOf stepOf
+    runFrom runOf
 worked-majority =
     worked 2 (receive 1 0 0 ∷ send 1 1 0 ∷ receive 1 1 0 ∷ deliver 1 0 ∷ [])
-    (record { free = refl; acted = refl; given = (refl, refl); ups = (refl, refl); quorum = inr (omega arith) })
+    (record {
+      free = refl;
+      acted = refl;
+      given = (refl, refl);
+      known = refl;
+      accepted = refl;
+      ups = (refl, refl);
+      quorum = inr (omega arith);
+    })
 
 pub quorum-needed : QuorumNeeded
 unfolding has with without allBelow cut withAll every within howMany countBelow fields opened enough refusalOf stepOf

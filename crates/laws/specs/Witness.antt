@@ -20,13 +20,11 @@ use Rattle.laws.specs.Table.{halfSent}
 abbrev pub workedSteps : List Step
 workedSteps = asksFirst 4 halfSent
 
--- then every order that is finished leaves message 0, and nothing else, in the logs of 1 and of 2
-abbrev pub WorkedLogs : ℕ → Type 0
-WorkedLogs k =
-    (b x : List ℕ) (es : List Step)
-    → Reached paper 3 k workedSteps b
-    → Finished paper b es x
-    → (logOf paper x 1 ≡ 0 ∷ []) × (logOf paper x 2 ≡ 0 ∷ [])
+-- they are accepted; then every order that is finished leaves message 0, and nothing else, in the logs of 1 and of 2
+pub record WorkedLogs (k : ℕ) : Type 0 where
+  pub accepted : Reached paper 3 k workedSteps (runOf paper (opened paper 3 k) halfSent .bank)
+  pub logs : (b x : List ℕ) (es : List Step) → Reached paper 3 k workedSteps b → Finished paper b es x
+      → (logOf paper x 1 ≡ 0 ∷ []) × (logOf paper x 2 ≡ 0 ∷ [])
 
 -- four controllers in majority mode: 0 delivers on the acknowledgements of 0, 1 and 2, and 1 and 2 crash
 abbrev parted : List ℕ
