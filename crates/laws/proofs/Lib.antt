@@ -36,6 +36,7 @@ pub mod History
 pub mod Unrefused
 pub mod Past
 pub mod Stays
+pub mod OnlyOrder
 pub mod Ends
 pub mod Agreement
 pub mod Candidates

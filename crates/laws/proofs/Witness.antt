@@ -10,7 +10,7 @@ use lib.ListN.{length}
 use borrow.Author.Tests.{eq-eqb, eqb-true}
 use Rattle.sets.specs.Set.{has, with, without, allBelow, cut, withAll, every, within, howMany, countBelow}
 use Rattle.sets.proofs.Tests.{both}
-use Rattle.group.specs.Place.{count, log, message, delivered}
+use Rattle.group.specs.Place.{count, message, delivered}
 use Rattle.group.specs.Layout.{Layout, paper, words, fields}
 use Rattle.group.specs.Fit.{Fit, isMode, allAck}
 use Rattle.group.specs.Opening.{opened}
@@ -32,6 +32,7 @@ use Rattle.laws.specs.Calls.{asksFirst}
 use Rattle.laws.specs.Table.{halfSent}
 use Rattle.laws.specs.Witness.{workedSteps, WorkedLogs, partedRun, partedEnd, QuorumNeeded}
 use Rattle.laws.proofs.Onward.{go-on, plain-run}
+use Rattle.laws.proofs.OnlyOrder.{no-entry}
 use Rattle.laws.proofs.Ends.{reached-on}
 use Rattle.laws.proofs.Listed.{run-leads}
 use Rattle.laws.proofs.Demand3.{demand-3}
@@ -103,13 +104,10 @@ module _ (L : Layout) {n k : ℕ} {before : List Step} {b : List ℕ} (r : Reach
       let same = here .same-end fs _ x _ p (record { run = whole; ended = rest .ended }) .1 in
       let given : m < words L b count = omega (arith, end .0, here .header-stays _ _ whole .2) in
       let kept = here .header-stays fs x (p .run) in
-      let word = same .outside (message m delivered) (omega (arith, here .fit .given), omega arith) no-entry in
+      let word = same .outside (message m delivered) (omega (arith, here .fit .given), omega arith) (no-entry _ refl) in
       here .agreement fs x p (quorum-after fs x (p .run) q) m i j (omega (arith, kept .2))
       (ap (λ w. has w i) word ∙ end .1)
       (ap (λ w. has w j) (kept .3) ∙ u)
-    where
-      no-entry : (i k : ℕ) → message m delivered ≡ log i k → ⊥
-      no-entry i k e = let z : _≡_ {A = ℕ} 0 1 = cc in omega arith
 
 -- ---- the worked example
 
