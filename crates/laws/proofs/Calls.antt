@@ -9,6 +9,7 @@ use lib.Dec.{eqb}
 use lib.ListN.{length}
 use borrow.Author.Tests.{eqb-true, eqb-false}
 use Rattle.group.specs.Layout.{paper}
+use Rattle.group.specs.Opening.{answer, openOf}
 use Rattle.group.specs.Step.{Step, asked}
 use Rattle.group.specs.Promises.{Allowed, after, stepOf, refusalOf, StepPromise, OpenPromise}
 use Rattle.group.specs.Lists.{outcome, runOf}
@@ -18,9 +19,9 @@ use Rattle.step_records.specs.Records.{flat}
 use Rattle.laws.specs.Runs.{Run, done}
 use Rattle.laws.specs.Demand.{Reached}
 use Rattle.laws.specs.Settler.{Tells}
-use Rattle.laws.specs.Calls.{asksFor, asksFirst, unlessRefused, Promised}
+use Rattle.laws.specs.Calls.{asksFor, asksFirst, ifAccepted, Promised}
 use Rattle.laws.specs.Calls.{Call, openRefused, step, run, runSteps, settle}
-use Rattle.laws.specs.Calls.{stepsOf, countOf, opened, called, Called, EveryCaller}
+use Rattle.laws.specs.Calls.{stepsOf, countOf, afterOpen, called, Called, EveryOpen, EveryCaller}
 use Rattle.laws.proofs.Ends.{reached-by}
 use Rattle.laws.proofs.Onward.{plain-run}
 use Rattle.laws.proofs.Telling.{settler-tells}
@@ -41,7 +42,7 @@ unmoved {b} e = record { run = subst (Steps b []) (sym e) done; long = refl }
 -- ---- one call
 
 step-led : (b c : List ℕ) (kind x y z r : ℕ) → StepPromise b kind x y z r c
-    → Led b (unlessRefused r (asked kind x y z)) (cond (eqb r 0) 1 0) c
+    → Led b (ifAccepted r (asked kind x y z)) (cond (eqb r 0) 1 0) c
 unfolding stepOf
 step-led b c kind x y z r p = go (eqb r 0) refl
   where
@@ -94,9 +95,12 @@ open-reached b c n k o =
     }
 
 called-reached : {n k : ℕ} {before : List Step} {b : List ℕ} → Called n k before b → Reached paper n k before b
-called-reached {n} {k} (opened {b = c} (b, o)) = open-reached b c n k o
+called-reached {n} {k} (afterOpen {b = c} (b, o)) = open-reached b c n k o
 called-reached {n} {k} (called {c = c} x d p) =
     let r = called-reached d in reached-by paper n k r (call-led r x c p .run)
+
+pub every-open : EveryOpen
+every-open b n k z = afterOpen (b, λ i. answer (sym z i) (openOf paper b n k .bank))
 
 pub every-caller : EveryCaller
 every-caller n k before b h =

@@ -8,23 +8,23 @@ use lib.Dec.{eqb}
 use lib.ListN.{length}
 use borrow.Author.Tests.{eq-eqb, ne-eqb, eqb-true, eqb-false}
 use Rattle.group.specs.Layout.{paper, size}
-use Rattle.group.specs.Opening.{answer}
+use Rattle.group.specs.Opening.{answer, openOf}
 use Rattle.group.specs.Step.{Step}
 use Rattle.group.proofs.Rules.{pass}
 use Rattle.group.proofs.Kept.{refused-leaves, open-refused-leaves}
 use Rattle.settler.specs.Settling.{ending, settleOf}
 use Rattle.loargwen.specs.Bytes.{wordsOf, bytesOf}
-use Rattle.loargwen.specs.Face.{isBank, flag, settledBytes, SettleBytes}
+use Rattle.loargwen.specs.Face.{isBank, onBytes, flag, settledBytes, SettleBytes}
 use Rattle.loargwen.proofs.Crossing.{length-bytes}
 use Rattle.loargwen.proofs.Kept.{Left, answered, stored, handed-on, unchanged, open-left, step-left, settle-left}
 use Rattle.group.specs.Promises.{Allowed, after}
 use Rattle.laws.specs.Runs.{Run}
 use Rattle.laws.specs.Demand.{Reached}
 use Rattle.laws.specs.Settler.{Tells}
-use Rattle.laws.specs.Calls.{opened, called, Called}
+use Rattle.laws.specs.Calls.{afterOpen, called, Called}
 use Rattle.laws.specs.Calls as Words
 use Rattle.laws.specs.CallsFromC.{CCall, openRefused, step, settle, PromisedToC, stepsOfC, countOfC}
-use Rattle.laws.specs.CallsFromC.{CalledFromC, EveryCCaller}
+use Rattle.laws.specs.CallsFromC.{CalledFromC, EveryOpenFromC, EveryCCaller}
 use Rattle.laws.proofs.Ends.{reached-fit}
 use Rattle.laws.proofs.Telling.{settler-tells}
 use Rattle.laws.proofs.Calls.{every-caller}
@@ -136,15 +136,19 @@ flag-back q false e = ne-eqb q 1 (λ f. omega arith)
 
 called-below : (n k : ℕ) {before : List Step} {bytes : List ℕ} → CalledFromC n k before bytes
     → Whole bytes × Called n k before (wordsOf bytes)
-called-below n k (opened {b = new} (bytes, o)) =
+called-below n k (afterOpen {b = new} (bytes, o)) =
     let l = open-left bytes n k o in
-    (whole-stored l refl, opened (wordsOf bytes, λ i. answer (sym (answered l refl) i) (handed-on l refl i)))
+    (whole-stored l refl, afterOpen (wordsOf bytes, λ i. answer (sym (answered l refl) i) (handed-on l refl i)))
 called-below n k (called {before = before} {b = bytes} {c = new} x d p) =
     let (w, c) = called-below n k d in
     let y = below bytes w (every-caller n k _ _ c .relies .reached) x new p in (
       y .whole,
       subst (λ es. Called n k (before ++ es) (wordsOf new)) (y .steps) (called (y .call) c (y .promised)),
     )
+
+pub every-open-from-c : EveryOpenFromC
+every-open-from-c bytes n k z =
+    afterOpen (bytes, λ i. answer (sym z i) (onBytes bytes (openOf paper (wordsOf bytes) n k) .bank))
 
 pub every-c-caller : EveryCCaller
 unfolding Whole

@@ -2,9 +2,8 @@
 use mathlib.Core.Path.{_≡_, refl, sym, ap, subst, _∙_}
 use mathlib.Core.List.{List, [], _∷_}
 use mathlib.Core.Option.{Option, none, some}
-use Prim.Native.Nat.{ℕ, zero, suc}
+use Prim.Native.Nat.{ℕ, zero, suc, _≤_}
 use native.Mathlib.Nat.{zero-add}
-use native.Mathlib.Omega.{arith}
 use lib.ListN.{length}
 use Rattle.group.specs.Layout.{Layout}
 use Rattle.group.specs.Step.{Step}
@@ -45,7 +44,7 @@ module _ (L : Layout) where
         accepted = h .accepted;
         taken = subst (λ es. Run (Settling (Allowed L)) (after L) b es (settleOf L b d .bank)) (sym same) (h .run);
         counted = ap length same ∙ sym long;
-        within = omega (arith, long, h .within);
+        within = subst (λ t. t ≤ d) (sym long) (h .within);
         quiet = h .quiet;
         ended = quiet-where-ended L h;
         spent = λ q. long ∙ h .busy q .0;

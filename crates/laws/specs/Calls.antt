@@ -25,9 +25,9 @@ abbrev pub asksFor : Option Step → List Step
 asksFor none = []
 asksFor (some s) = s ∷ []
 
--- a single step that was asked for, unless it was refused by r
-abbrev pub unlessRefused : ℕ → Option Step → List Step
-unlessRefused r o = cond (eqb r 0) (asksFor o) []
+-- a single step that was asked for, if the answer r says that it was accepted
+abbrev pub ifAccepted : ℕ → Option Step → List Step
+ifAccepted r o = cond (eqb r 0) (asksFor o) []
 
 -- the first a steps that a list of words asks for, four words a step
 abbrev pub asksFirst : ℕ → List ℕ → List Step
@@ -59,7 +59,7 @@ Promised b (settle d r t q) c = SettlePromise b d r t q c
 -- the steps that it took, and how many its answer counts; a settling's are the settler's own first so many
 abbrev pub stepsOf : List ℕ → Call → List Step
 stepsOf b (openRefused n k r z) = []
-stepsOf b (step kind x y z r) = unlessRefused r (asked kind x y z)
+stepsOf b (step kind x y z r) = ifAccepted r (asked kind x y z)
 stepsOf b (run steps a r) = asksFirst a steps
 stepsOf b (runSteps steps a r) = asksFirst a (flat steps)
 stepsOf b (settle d r t q) = chosen paper t b
@@ -71,7 +71,7 @@ countOf (run steps a r) = a
 countOf (runSteps steps a r) = a
 countOf (settle d r t q) = t
 
--- none is left out: whatever is asked of whatever bank, the answer and the bank that the definitions give are promised
+-- none is left out: whatever is asked of this bank, the answer and the bank that the definitions give are promised
 pub record EveryAnswer (b : List ℕ) : Type 0 where
   pub of-open : (n k : ℕ) (z : openOf paper b n k .refusal ≡ 0 → ⊥)
       → Promised b (openRefused n k (openOf paper b n k .refusal) z) (openOf paper b n k .bank)
@@ -89,12 +89,16 @@ pub record EveryAnswer (b : List ℕ) : Type 0 where
 -- an open that answered 0, then calls as they come: the steps taken so far, and what the lent memory holds now
 pub data Calls {C : Type 0} (Opened : List ℕ → Type 0) (Promised : List ℕ → C → List ℕ → Type 0)
     (stepsOf : List ℕ → C → List Step) : List Step → List ℕ → Type 0 where
-  opened : {b : List ℕ} → Opened b → Calls Opened Promised stepsOf [] b
+  afterOpen : {b : List ℕ} → Opened b → Calls Opened Promised stepsOf [] b
   called : {before : List Step} {b c : List ℕ} (x : C) → Calls Opened Promised stepsOf before b → Promised b x c
       → Calls Opened Promised stepsOf (before ++ stepsOf b x) c
 
 abbrev pub Called : ℕ → ℕ → List Step → List ℕ → Type 0
 Called n k = Calls (λ c. (b : List ℕ) × OpenPromise b n k 0 c) Promised stepsOf
+
+-- no open is left out: whatever the memory held, one that answers 0 begins such calls
+abbrev pub EveryOpen : Type 0
+EveryOpen = (b : List ℕ) (n k : ℕ) → openOf paper b n k .refusal ≡ 0 → Called n k [] (openOf paper b n k .bank)
 
 -- ---- what whoever calls may rely on
 

@@ -14,7 +14,7 @@ use Rattle.loargwen.specs.Bytes.{wordsOf, bytesOf}
 use Rattle.loargwen.specs.Face.{onBytes, settleOnBytes, OpenBytes, StepBytes, SettleBytes}
 use Rattle.laws.specs.Runs.{Run}
 use Rattle.laws.specs.Settler.{chosen, Tells}
-use Rattle.laws.specs.Calls.{unlessRefused, Calls, Relies}
+use Rattle.laws.specs.Calls.{ifAccepted, Calls, Relies}
 
 -- each call with its numbers and what it answered; quiet is 1 or 0
 pub data CCall : Type 0 where
@@ -29,7 +29,7 @@ PromisedToC bytes (settle d r t q) new = SettleBytes bytes d r t q new
 
 abbrev pub stepsOfC : List ℕ → CCall → List Step
 stepsOfC bytes (openRefused n k r z) = []
-stepsOfC bytes (step kind x y z r) = unlessRefused r (asked kind x y z)
+stepsOfC bytes (step kind x y z r) = ifAccepted r (asked kind x y z)
 stepsOfC bytes (settle d r t q) = chosen paper t (wordsOf bytes)
 
 abbrev pub countOfC : CCall → ℕ
@@ -52,6 +52,12 @@ pub record EveryAnswerToC (bytes : List ℕ) : Type 0 where
 -- a loargwen_open that answered 0, then calls as they come
 abbrev pub CalledFromC : ℕ → ℕ → List Step → List ℕ → Type 0
 CalledFromC n k = Calls (λ new. (bytes : List ℕ) × OpenBytes bytes n k 0 new) PromisedToC stepsOfC
+
+-- no loargwen_open is left out
+abbrev pub EveryOpenFromC : Type 0
+EveryOpenFromC = (bytes : List ℕ) (n k : ℕ)
+    → let a = onBytes bytes (openOf paper (wordsOf bytes) n k) in
+    a .refusal ≡ 0 → CalledFromC n k [] (a .bank)
 
 -- the bytes are a bank's; it was reached by the steps that the answers tell of, and demand 3 is had of it; whatever is
 -- called next leads from it by its steps, as many as its answer counts, and a settling's tells what is left
