@@ -119,7 +119,7 @@ module _ (k : ℕ) (es : List Step) where
   abbrev actedBank : List ℕ
   actedBank = afterAll paper sentBank es
 
-  -- the four steps were accepted, and es bring 1 to deliver; there is one message, 1 and 2 are up and are a quorum
+  -- the four steps were accepted, and es bring 1 to deliver; there is one message, and 1 and 2 are up
   record Acts : Type 0 where
     free : allFree paper sentBank es ≡ true
     acted : hasDelivered (words paper actedBank) 1 0 ≡ true
@@ -127,10 +127,9 @@ module _ (k : ℕ) (es : List Step) where
     known : isMode k ≡ true
     accepted : runOf paper (opened paper 3 k) halfSent .accepted ≡ 4
     ups : (isUp (words paper sentBank) 1 ≡ true) × (isUp (words paper sentBank) 2 ≡ true)
-    quorum : Quorum paper sentBank
 
-  module _ (a : Acts) {fs : List Step} {x : List ℕ} (r : Reached paper 3 k workedSteps sentBank)
-      (p : Finished paper sentBank fs x) where
+  module _ (a : Acts) (q : Quorum paper sentBank) {fs : List Step} {x : List ℕ}
+      (r : Reached paper 3 k workedSteps sentBank) (p : Finished paper sentBank fs x) where
     begun : Demand3 paper 3 k workedSteps sentBank
     begun = demand-3 paper 3 k workedSteps sentBank r
 
@@ -145,7 +144,7 @@ module _ (k : ℕ) (es : List Step) where
     once : (j : ℕ) → isUp (words paper sentBank) j ≡ true → occurs 0 (logOf paper x j) ≡ 1
     once j u =
         let way = free-run paper sentBank es (begun .fit) (a .free) in
-        foreseen paper r way 0 1 (omega (arith, a .given)) (a .acted) p (a .quorum) j u
+        foreseen paper r way 0 1 (omega (arith, a .given)) (a .acted) p q j u
 
     log-is : (j : ℕ) → j < 3 → isUp (words paper sentBank) j ≡ true → logOf paper x j ≡ 0 ∷ []
     log-is j l u =
@@ -168,15 +167,15 @@ module _ (k : ℕ) (es : List Step) where
             (h .run);
       }
 
-  worked : Acts → WorkedLogs k
-  worked a =
+  worked : Acts → Quorum paper sentBank → WorkedLogs k
+  worked a q =
       record {
         accepted = sent a;
         logs = λ b x fs r p.
             (let e = run-ends paper (r .run) in
             let r₀ = subst (Reached paper 3 k workedSteps) e r in
             let p₀ = subst (λ b. Finished paper b fs x) e p in
-            (log-is a r₀ p₀ 1 (omega arith) (a .ups .0), log-is a r₀ p₀ 2 (omega arith) (a .ups .1)));
+            (log-is a q r₀ p₀ 1 (omega arith) (a .ups .0), log-is a q r₀ p₀ 2 (omega arith) (a .ups .1)));
       }
 
 -- 1 hears from itself and, in all-ack, from 2, and knows that 0 is down; in majority two of three are enough
@@ -195,30 +194,16 @@ worked-all-ack =
     ∷ receive 1 2 0
     ∷ deliver 1 0
     ∷ [])
-    (record {
-      free = refl;
-      acted = refl;
-      given = (refl, refl);
-      known = refl;
-      accepted = refl;
-      ups = (refl, refl);
-      quorum = inl refl;
-    })
+    (record { free = refl; acted = refl; given = (refl, refl); known = refl; accepted = refl; ups = (refl, refl) })
+    (inl refl)
 
 pub worked-majority : WorkedLogs 2
 unfolding has with without allBelow cut withAll every within howMany countBelow fields opened enough refusalOf stepOf
     runFrom runOf
 worked-majority =
     worked 2 (receive 1 0 0 ∷ send 1 1 0 ∷ receive 1 1 0 ∷ deliver 1 0 ∷ [])
-    (record {
-      free = refl;
-      acted = refl;
-      given = (refl, refl);
-      known = refl;
-      accepted = refl;
-      ups = (refl, refl);
-      quorum = inr (omega arith);
-    })
+    (record { free = refl; acted = refl; given = (refl, refl); known = refl; accepted = refl; ups = (refl, refl) })
+    (inr (omega arith))
 
 pub quorum-needed : QuorumNeeded
 unfolding has with without allBelow cut withAll every within howMany countBelow fields opened enough refusalOf stepOf
