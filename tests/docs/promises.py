@@ -197,12 +197,17 @@ def look_at_entries(entries):
 
 
 def public_calls():
-    """Of each public function: its crate, how the page writes it, and its contract."""
-    shape = r'(?ms)^ *pub (?:extern "C" )?fn (\w+)\(([^)]*)\)(.*?)\{ *$'
+    """Of each public function: its crate, how the page writes it, and its contract.
+
+    What is taken for the contract ends where the body begins, or the next function, where the body closes on its line.
+    """
+    head = r'\bpub (?:const |unsafe |extern "C" )*fn (\w+)(?:<[^>]*>)?\(([^)]*)\)'
+    after = r"(?m)^ *\{|\{ *$|\bfn "
     for path in sorted(Path("crates").glob("*/src/**/*.rt")):
-        for name, arguments, contract in re.findall(shape, code(path)):
-            names = [argument.split(":")[0].strip() for argument in arguments.split(",")]
-            yield path.parts[1], f"{name}({', '.join(filter(None, names))})", in_one_line(contract)
+        for found in re.finditer(head, code(path)):
+            names = [argument.split(":")[0].strip() for argument in found[2].split(",")]
+            contract = re.split(after, code(path)[found.end() :], maxsplit=1)[0]
+            yield path.parts[1], f"{found[1]}({', '.join(filter(None, names))})", in_one_line(contract)
 
 
 def look_at_calls(entries):

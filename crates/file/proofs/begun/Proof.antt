@@ -1,4 +1,8 @@
 -- begun: each test that fails decides, and the last one decides where all before it hold.
+use Prim.Native.Nat.{_<_}
+use mathlib.Core.Bool.{and-false}
+use native.Mathlib.Omega.{arith}
+use lib.ListN.{length}
 use Rattle.file.specs.Records.{begun}
 use borrow.Author.Tests.{le-leb, lt-leb, eq-eqb, ne-eqb}
 use mathlib.Core.Path.{sym, _∙_}
@@ -12,7 +16,10 @@ returns c = rw (lt-leb _ 65536 (c .if1 .taken))
 
 returns-2 : tie.Need-returns-2
 unfolding begun
-returns-2 c = rw (le-leb _ 65536 (c .before .if1 .left), lt-leb 8 _ (c .if2 .taken))
+returns-2 c =
+    let s = c .before .before .before .args .s .now in
+    let short : length s < 8 = omega arith in
+    rw (le-leb _ 65536 (c .before .if1 .left), lt-leb _ _ short)
 
 word-at-requires : tie.Need-word-at-requires
 word-at-requires c κs = search needs
@@ -22,8 +29,8 @@ unfolding begun
 returns-3 c =
     rw (
       le-leb _ 65536 (c .before .before .before .if1 .left),
-      le-leb 8 _ (c .before .before .if2 .left),
       ne-eqb _ 6 (λ e. c .if3 .taken (c .before .word-at .ensures ∙ e)),
+      and-false,
     )
 
 word-at-requires-2 : tie.Need-word-at-requires-2

@@ -3,7 +3,7 @@ use Prim.Native.Nat.{_+_, _%_, _≤_, _<_}
 use native.Mathlib.Omega.{arith}
 use lib.ListN.{length}
 use borrow.Author.Tests.{le-leb, lt-leb, eq-eqb, ne-eqb}
-use mathlib.Core.Path.{sym, ap, _∙_}
+use mathlib.Core.Path.{_≡_}
 use Rattle.file.specs.Records.{wordAt}
 use borrow.Author.Needs.{needs}
 use Rattle.file.proofs.well_cut.Statement.{statement}
@@ -39,7 +39,8 @@ returns-3 c =
     let e = c .before .before .word-at .ensures in
     let whole : a .i + 2 ≤ length (a .s .now) = omega arith in
     let fits : a .i + 2 + w ≤ length (a .s .now) = omega arith in
-    rw (le-leb _ _ whole, le-leb _ _ fits, ne-eqb (w % 2) 0 (λ q. c .if3 .taken (ap (λ x. x % 2) e ∙ q)))
+    let odd : w % 2 ≡ 0 → ⊥ = λ q. omega arith in
+    rw (le-leb _ _ whole, le-leb _ _ fits, ne-eqb _ _ odd)
 
 returns-4 : tie.Need-returns-4
 returns-4 c =
@@ -48,7 +49,8 @@ returns-4 c =
     let e = c .before .before .word-at .ensures in
     let whole : a .i + 2 ≤ length (a .s .now) = omega arith in
     let fits : a .i + 2 + w ≤ length (a .s .now) = omega arith in
-    rw (e, le-leb _ _ whole, le-leb _ _ fits, eq-eqb (w % 2) 0 (ap (λ x. x % 2) (sym e) ∙ c .if3 .left))
+    let even : w % 2 ≡ 0 = omega arith in
+    rw (e, le-leb _ _ whole, le-leb _ _ fits, eq-eqb _ _ even)
 
 pub well-cut-spec : {M : Type 1} → statement M
 well-cut-spec =

@@ -1,5 +1,5 @@
 -- fit: the code makes the specification's tests in the same order, and the first that fails decides.
-use Prim.Native.Nat.{ℕ}
+use Prim.Native.Nat.{ℕ, _≤_, _<_}
 use mathlib.Core.Path.{_≡_, sym, _∙_}
 use mathlib.Core.Bool.{Bool, true, _&&_}
 use mathlib.Core.List.{List}
@@ -64,13 +64,19 @@ shared-slice-read-if4 : tie.Need-shared-slice-read-if4
 shared-slice-read-if4 c = search needs
 
 returns-4 : tie.Need-returns-4
-returns-4 c = rw (at-count (c .before .before), lt-leb _ _ (c .if4 .taken))
+returns-4 c =
+    let b = lent (c .before .before .before .before .before) in
+    let over : paper .messages < words paper b count = omega arith in
+    rw (at-count (c .before .before), lt-leb _ _ over)
 
 logs-fit-requires : tie.Need-logs-fit-requires
 logs-fit-requires c κs = (omega arith, size-range paper _ (sized (c .before .before .before .before .before)) .1)
 
 returns-5 : tie.Need-returns-5
-returns-5 c = rw (at-count (c .before .before .before), le-leb _ _ (c .before .if4 .left)) (c .logs-fit .ensures)
+returns-5 c =
+    let b = lent (c .before .before .before .before .before .before) in
+    let within : words paper b count ≤ paper .messages = omega arith in
+    rw (at-count (c .before .before .before), le-leb _ _ within) (c .logs-fit .ensures)
 
 pub fit-spec : {M : Type 1} → statement M
 fit-spec =
