@@ -30,8 +30,8 @@ use Rattle.day.specs.declared.entries.Tally.{Tally}
 use Rattle.day.specs.Tallies.{empty, addEntry, addAll, allGiven, tallyRefusal, dayAnswer, tallyOf}
 use Rattle.day.proofs.Asking.{tests-hold}
 use Rattle.laws.specs.Above.{SameBelow, SameAnswer, SameOutcome, SameEnding, AboveUnread}
-use Rattle.laws.proofs.Unread.{choose-alike, N-same, count-same, fit-same}
-use Rattle.laws.proofs.Unread.{controller-same, message-same, refusal-same, refuse-alike, after-same, go-on-alike}
+use Rattle.laws.proofs.Unread.{choose-alike, N-same, count-same, fit-same, controller-same, message-same}
+use Rattle.laws.proofs.Unread.{refusal-same, refuse-alike, after-same, go-on-alike}
 use Rattle.laws.proofs.Entries.{log-entries}
 use Rattle.laws.proofs.Choice.{Next, next-is}
 
@@ -104,7 +104,9 @@ module _ (L : Layout) where
   settle-alike : (d : ℕ) (b c : List ℕ) → SameBelow L b c → SameEnding L (settleOf L b d) (settleOf L c d)
   unfolding settleOf
   settle-alike d b c e =
-      choose-alike (SameEnding L) (fit-same L b c e) (λ f. settle-from d 0 b c e (fit-facts L b f)) (refl, refl, refl, e)
+      choose-alike (SameEnding L) (fit-same L b c e)
+      (λ f. settle-from d 0 b c e (fit-facts L b f))
+      (refl, refl, refl, e)
 
 -- ---- logs
 
