@@ -190,6 +190,7 @@ unfolding stepOf
 above-unread L b c e =
     record {
       opening = open-alike L b c e;
+      fitness = fit-same L b c e;
       refusal = refuse-alike L b c e;
       step = λ kind x y z. (refuse-alike L b c e kind x y z, go-on-alike L b c e kind x y z);
       run = λ steps. run-alike L steps b c e;
