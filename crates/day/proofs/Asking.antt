@@ -69,7 +69,7 @@ module _ (L : Layout) (b : List ℕ) (who day : ℕ) where
       → tallyOf L b who day ≡ dayAnswer 0 (addAll day (words L b) empty (logOf L b who))
   tally-whole e = under-refusal 0 e
 
-  tests-hold : tallyRefusal L b who day ≡ 0 → Holds (ofLog ++ ofDay)
+  pub tests-hold : tallyRefusal L b who day ≡ 0 → Holds (ofLog ++ ofDay)
   tests-hold e = all-hold (ofLog ++ ofDay) (tt, (tt, (tt, (tt, tt)))) e
 
   pub log-free : tallyRefusal L b who day ≡ 0 → logRefusal L b who ≡ 0

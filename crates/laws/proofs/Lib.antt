@@ -41,6 +41,7 @@ pub mod Ends
 pub mod Agreement
 pub mod Candidates
 pub mod Choice
+pub mod UnreadCalls
 pub mod Turns
 pub mod Settler
 pub mod Spoilt
