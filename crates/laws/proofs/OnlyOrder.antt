@@ -23,8 +23,8 @@ entries (view i) = 0
 entries (logLength i) = 0
 entries (message m f) = 0
 
-pub no-entry : (p : Place) → entries p ≡ 0 → (i k : ℕ) → p ≡ log i k → ⊥
-no-entry p z i k e = omega (arith, sym z ∙ ap entries e)
+pub no-entry : {A : Type 0} (p : Place) → entries p ≡ 0 → (i k : ℕ) → p ≡ log i k → A
+no-entry p z i k e = absurd (omega (arith, sym z ∙ ap entries e))
 
 module _ (L : Layout) (x y : List ℕ) (alike : Alike L x y)
     (ordered : (i k : ℕ) → PlaceIn L (log i k) → i < words L x N → k < words L x (logLength i)
