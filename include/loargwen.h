@@ -40,8 +40,8 @@
  *
  * A bank is unfit, and every call but loargwen_open refuses it with LOARGWEN_UNFIT, when it is not LOARGWEN_BANK_BYTES
  * long or its bytes cannot be a group's: a wrong number of controllers, an unknown mode, more than 32 messages, or a
- * log of one of its controllers longer than there are messages. It was never opened, or somebody else has written to
- * it: open it, or put a saved bank back. A bank that somebody spoilt need not be unfit.
+ * log of one of its controllers longer than there are messages. If the length is right it was never opened, or somebody
+ * else has written to it: open it, or put a saved bank back. A bank that somebody spoilt need not be unfit.
  *
  * In the bank each number is two bytes, the low one first. Controller i's log has as many entries as the number at byte
  * 40 + 2*i says, from byte 72 + 64*i on; an entry is a message's number. A bank has room for 32 messages; for more the
@@ -87,8 +87,8 @@ enum loargwen_refusal {
     LOARGWEN_DONE = 0,
     LOARGWEN_UNFIT = 1,          /* the bank is unfit. A deliver answers it too, after all other tests, where the log
                                     has as many entries as there are messages; a tally where it has one that is no
-                                    message. No bank that loargwen_open wrote and only the calls below changed comes
-                                    to any of these. */
+                                    message. No bank that loargwen_open wrote and only the calls below changed,
+                                    given with its own length, comes to any of these. */
     LOARGWEN_NO_STEP = 2,        /* the kind is not 1 to 7, or a number that the kind does not use is not 0 */
     LOARGWEN_NO_CONTROLLER = 3,  /* a controller's number is not below the number of controllers */
     LOARGWEN_NO_MESSAGE = 4,     /* a message's number has not been given yet */

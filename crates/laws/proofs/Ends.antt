@@ -205,7 +205,7 @@ module _ (L : Layout) (n k : ℕ) where
         record {
           long = fx .whole ∙ sym (fy .whole);
           outside = same-outside;
-          logs = same-logs;
+          logs = λ i m l. same-logs i m (omega arith);
           past = λ i j h u.
               log-run L i (h .0) (plain-run p) .past j (h .1) u
               ∙ sym (log-run L i (h .0) (plain-run q) .past j (h .1) (omega (arith, same-length i (h .0))));

@@ -45,8 +45,12 @@ module _ (L : Layout) (x y : List ℕ) (alike : Alike L x y)
   same-word (logLength i) p = alike .outside (logLength i) p (no-entry _ refl)
   same-word (message m f) p = alike .outside (message m f) p (no-entry _ refl)
 
-pub only-order : (L : Layout) → OnlyOrder L
-only-order L x y whole alike ordered =
-    ext-getD 0 x y (alike .long)
-    (λ a k. let w = places-are-words L .every a (omega (arith, whole)) in
-    subst (λ a. getD x a 0 ≡ getD y a 0) (w .2) (same-word L x y alike ordered (w .0) (w .1)))
+pub only-order : (L : Layout) (x y : List ℕ) → Alike L x y → OnlyOrder L x y
+only-order L x y alike =
+    record {
+      entries = λ i m l. alike .logs i m (omega arith);
+      one-bank = λ whole ordered.
+          ext-getD 0 x y (alike .long)
+          (λ a k. let w = places-are-words L .every a (omega (arith, whole)) in
+          subst (λ a. getD x a 0 ≡ getD y a 0) (w .2) (same-word L x y alike ordered (w .0) (w .1)));
+    }

@@ -37,12 +37,14 @@ pub record Alike (L : Layout) (x y : List ℕ) : Type 0 where
   pub past : (i k : ℕ) → PlaceIn L (log i k) → words L x (logLength i) ≤ k → words L x (log i k) ≡ words L y (log i k)
   pub absent : (i k : ℕ) → PlaceIn L (log i k) → words L x N ≤ i → words L x (log i k) ≡ words L y (log i k)
 
--- nothing but that order: alike banks whose logs have the same entries in the same order are one bank
-abbrev pub OnlyOrder : Layout → Type 0
-OnlyOrder L = (x y : List ℕ) → length x ≡ size L → Alike L x y
-    → ((i k : ℕ) → PlaceIn L (log i k) → i < words L x N → k < words L x (logLength i)
-    → words L x (log i k) ≡ words L y (log i k))
-    → x ≡ y
+-- nothing but that order: each log has the same entries, each as often, and where they are in the same order too the
+-- two are one bank
+pub record OnlyOrder (L : Layout) (x y : List ℕ) : Type 0 where
+  pub entries : (i m : ℕ) → i < words L x N → occurs m (logOf L x i) ≡ occurs m (logOf L y i)
+  pub one-bank : length x ≡ size L
+      → ((i k : ℕ) → PlaceIn L (log i k) → i < words L x N → k < words L x (logLength i)
+      → words L x (log i k) ≡ words L y (log i k))
+      → x ≡ y
 
 -- all-ack, or majority with more than half of the controllers up
 abbrev pub Quorum : Layout → List ℕ → Type 0

@@ -57,7 +57,7 @@ impl<'a> Contest<'a> {
             plant: setting.plant,
             bank: Field::new(bytes, guard + shift.min(guard), guard),
             guard,
-            opened: setting.plant == Some(Plant::AsOpened),
+            opened: false,
             wrong: String::new(),
             made: 0,
             figures,
@@ -80,7 +80,17 @@ impl<'a> Contest<'a> {
         let got = self.calls.open(self.bank.lent_mut(), n, mode);
         self.answered("open", want);
         self.opened |= want == DONE;
-        self.check(|| format!("open {n} {mode}"), want, got)
+        let checked = self.check(|| format!("open {n} {mode}"), want, got);
+        if want == DONE && self.plant == Some(Plant::SpoilOpened) {
+            self.spoil();
+        }
+        checked
+    }
+
+    /// Makes the bank unfit on both sides.
+    fn spoil(&mut self) {
+        self.bank.lent_mut()[0] = 17;
+        self.model = Bank::planted(self.bank.lent(), self.plant);
     }
 
     /// Takes a step on both sides.

@@ -41,8 +41,8 @@ pub enum Plant {
     ShortLog,
     /// The words of a buffer after a log that is copied into it are cleared.
     ClearRest,
-    /// Every bank counts as one on which a group was opened.
-    AsOpened,
+    /// A bank is made unfit, on both sides alike, once a group is opened on it.
+    SpoilOpened,
     /// The byte after a bank is changed.
     PastBank,
     /// The word after a bank lent as words is changed.
@@ -73,7 +73,7 @@ impl Plant {
         ("stranger-unfit", Plant::StrangerUnfit),
         ("short-log", Plant::ShortLog),
         ("clear-rest", Plant::ClearRest),
-        ("as-opened", Plant::AsOpened),
+        ("spoil-opened", Plant::SpoilOpened),
         ("past-bank", Plant::PastBank),
         ("past-words", Plant::PastWords),
         ("past-beside", Plant::PastBeside),
