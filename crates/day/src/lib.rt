@@ -2,6 +2,7 @@
 ghost use mathlib.Core.Path.{_≡_};
 ghost use Rattle.day.specs.Tallies.{TallyPromise};
 use group::Bank;
+use numbers::Refusal;
 
 mod entries;
 
@@ -29,11 +30,11 @@ pub fn tally_day(bank: &[u16], who: u16, day: u16) -> DayAnswer
     ensures { λ r. ⌜ TallyPromise (now (bank .entry)) who day (r .refusal) (r .count) (r .sum) ⌝ }
 {
     let l = group::log_length(bank, who);
-    if l.refusal != 0 {
+    if l.refusal != Refusal::NONE {
         return refused(l.refusal);
     }
     if day > Tally::LAST_DAY {
-        return refused(14);
+        return refused(Refusal::NO_DAY);
     }
     let log = group::log(bank, who);
     let count = bank[Bank::COUNT];
@@ -42,14 +43,14 @@ pub fn tally_day(bank: &[u16], who: u16, day: u16) -> DayAnswer
     while k < log.len() {
         let m = log[k];
         if m >= count {
-            return refused(1);
+            return refused(Refusal::UNFIT);
         }
         let a = Bank::RECORDS + (m as usize) * Bank::RECORD;
         t = t.add_entry(day, bank[a + Bank::STAMP], bank[a + Bank::VALUE]);
         k += 1;
     }
     DayAnswer {
-        refusal: 0,
+        refusal: Refusal::NONE,
         count: t.count,
         sum: t.sum,
     }

@@ -4,6 +4,8 @@ ghost use Prim.Native.Nat.{_+_, _≤_, _<_};
 ghost use lib.ListN.{length, getD};
 ghost use Rattle.file.specs.Records.{recordLength, numberAt, wellCut};
 ghost use Rattle.file.specs.Promises.{WordPromise, FindPromise, BegunPromise};
+use numbers::Kind;
+use numbers::Refusal;
 
 pub const OPEN: u16 = 16;
 
@@ -46,9 +48,9 @@ fn record_length(kind: u16) -> u16
     ensures { λ r. ⌜ r ≡ recordLength kind ⌝ }
 {
     match kind {
-        1 | 2 | 3 | 7 => 8,
-        4 | 6 | OPEN => 6,
-        5 | SETTLE => 4,
+        Kind::BROADCAST | Kind::SEND | Kind::RECEIVE | Kind::LOSE => 8,
+        Kind::DELIVER | Kind::DETECT | OPEN => 6,
+        Kind::CRASH | SETTLE => 4,
         _ => 0,
     }
 }
@@ -91,18 +93,18 @@ pub fn find_at(s: &[u8], i: usize) -> Found
         return Found::End;
     }
     if !well_cut(s, i) {
-        return Found::Bad(13);
+        return Found::Bad(Refusal::RAGGED);
     }
     let kind = word_at(s, i + 2);
     let length = record_length(kind);
     if length == 0 {
-        return Found::Bad(2);
+        return Found::Bad(Refusal::NO_STEP);
     }
     if kind == OPEN {
-        return Found::Bad(2);
+        return Found::Bad(Refusal::NO_STEP);
     }
     if word_at(s, i) != length {
-        return Found::Bad(13);
+        return Found::Bad(Refusal::RAGGED);
     }
     Found::Got(Record {
         kind,

@@ -8,6 +8,7 @@ ghost use Rattle.group.specs.Fit;
 ghost use Rattle.group.specs.Fit.{isSize, isMode, logFits};
 ghost use Rattle.group.specs.Opening.{opened, views};
 ghost use Rattle.group.specs.Numbers.{numbers};
+use numbers::Mode;
 
 // A bank is a run of words that the caller lends; this type carries the numbers of its layout.
 pub struct Bank {}
@@ -105,10 +106,10 @@ pub(crate) fn is_size(n: u16) -> bool
 pub(crate) fn is_mode(mode: u16) -> bool
     ensures { λ r. ⌜ r ≡ isMode mode ⌝ }
 {
-    if mode == 1 {
+    if mode == Mode::ALL_ACK {
         return true;
     }
-    mode == 2
+    mode == Mode::MAJORITY
 }
 
 // No log of the first n controllers is longer than there are messages.

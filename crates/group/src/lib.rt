@@ -16,22 +16,23 @@ pub use logs::log;
 pub use logs::log_length;
 pub use refusals::enough;
 ghost use Rattle.group.specs.Promises.{OpenPromise, RefusalPromise, StepPromise};
+use numbers::Refusal;
 
 // Opens a group of n controllers: the whole bank is written anew.
 pub fn open(bank: &mut [u16], n: u16, mode: u16) -> u16
     ensures { λ r. ⌜ OpenPromise (now (bank .entry)) n mode r (now (bank .exit)) ⌝ }
 {
     if bank.len() != Bank::WORDS {
-        return 1;
+        return Refusal::UNFIT;
     }
     if !bank::is_size(n) {
-        return 11;
+        return Refusal::BAD_SIZE;
     }
     if !bank::is_mode(mode) {
-        return 12;
+        return Refusal::BAD_MODE;
     }
     bank::write_opening(bank, n, mode);
-    0
+    Refusal::NONE
 }
 
 // What refuses a step, or 0; nothing is changed.
@@ -39,7 +40,7 @@ pub fn refusal(bank: &[u16], kind: u16, a: u16, b: u16, c: u16) -> u16
     ensures { λ r. ⌜ RefusalPromise (now (bank .entry)) kind a b c r ⌝ }
 {
     if !bank::fit(bank) {
-        return 1;
+        return Refusal::UNFIT;
     }
     refusals::of_asked(bank, kind, a, b, c)
 }
@@ -49,9 +50,9 @@ pub fn step(bank: &mut [u16], kind: u16, a: u16, b: u16, c: u16) -> u16
     ensures { λ r. ⌜ StepPromise (now (bank .entry)) kind a b c r (now (bank .exit)) ⌝ }
 {
     let r = refusal(bank, kind, a, b, c);
-    if r != 0 {
+    if r != Refusal::NONE {
         return r;
     }
     steps::apply(bank, kind, a, b, c);
-    0
+    Refusal::NONE
 }

@@ -1,6 +1,7 @@
 // A list of steps, applied in order up to the first refusal. Reads the list, writes the bank through single steps
 // alone.
 ghost use Rattle.group.specs.Lists.{RunPromise};
+use numbers::Refusal;
 
 // How many steps were accepted, and the refusal that ended the list, or 0.
 #[repr(C)]
@@ -17,20 +18,20 @@ pub fn run(bank: &mut [u16], steps: &[u16]) -> Ran
     if !crate::bank::fit(bank) {
         return Ran {
             accepted: 0,
-            refusal: 1,
+            refusal: Refusal::UNFIT,
         };
     }
     if steps.len() % 4 != 0 {
         return Ran {
             accepted: 0,
-            refusal: 13,
+            refusal: Refusal::RAGGED,
         };
     }
     let mut i: usize = 0;
     let mut accepted: usize = 0;
     while i < steps.len() {
         let r = crate::step(bank, steps[i], steps[i + 1], steps[i + 2], steps[i + 3]);
-        if r != 0 {
+        if r != Refusal::NONE {
             return Ran {
                 accepted,
                 refusal: r,
@@ -41,6 +42,6 @@ pub fn run(bank: &mut [u16], steps: &[u16]) -> Ran
     }
     Ran {
         accepted,
-        refusal: 0,
+        refusal: Refusal::NONE,
     }
 }

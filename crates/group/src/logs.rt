@@ -1,6 +1,7 @@
 // Questions about a log. Reads the header, one log length and that log; writes nothing.
 ghost use Rattle.group.specs.Logs.{LengthPromise, LogPromise};
 use crate::Bank;
+use numbers::Refusal;
 
 // A log's length, 0 where the question is refused.
 #[repr(C)]
@@ -14,18 +15,18 @@ pub fn log_length(bank: &[u16], who: u16) -> LogLength
 {
     if !crate::bank::fit(bank) {
         return LogLength {
-            refusal: 1,
+            refusal: Refusal::UNFIT,
             length: 0,
         };
     }
     if who >= bank[Bank::N] {
         return LogLength {
-            refusal: 3,
+            refusal: Refusal::NO_CONTROLLER,
             length: 0,
         };
     }
     LogLength {
-        refusal: 0,
+        refusal: Refusal::NONE,
         length: bank[Bank::LENGTHS + who as usize],
     }
 }
@@ -35,7 +36,7 @@ pub fn log(bank: &[u16], who: u16) -> &[u16]
     ensures { λ r. ⌜ LogPromise (now (bank .entry)) who (now r) ⌝ }
 {
     let l = log_length(bank, who);
-    if l.refusal != 0 {
+    if l.refusal != Refusal::NONE {
         return &bank[0..0];
     }
     let a = Bank::LOGS + (who as usize) * Bank::LOG;

@@ -14,6 +14,9 @@ ghost use Rattle.group.specs.Refusals.{_else_, firstBroken, actor, mayDe
 ghost use Rattle.group.specs.Promises.{askedRefusal};
 use crate::Bank;
 use crate::bank::record_at;
+use numbers::Kind;
+use numbers::Mode;
+use numbers::Refusal;
 
 // A controller that acts is there and up.
 fn actor(bank: &[u16], i: u16) -> u16
@@ -21,12 +24,12 @@ fn actor(bank: &[u16], i: u16) -> u16
     ensures { λ r. ⌜ r ≡ firstBroken (Refusals.actor (words paper (now (bank .entry))) i) ⌝ }
 {
     if i >= bank[Bank::N] {
-        return 3;
+        return Refusal::NO_CONTROLLER;
     }
     if !sets::has(bank[Bank::UP], i) {
-        return 6;
+        return Refusal::ACTOR_DOWN;
     }
-    0
+    Refusal::NONE
 }
 
 // Two controllers and a message are there.
@@ -36,15 +39,15 @@ fn copy(bank: &[u16], i: u16, j: u16, m: u16) -> u16
 {
     let n = bank[Bank::N];
     if i >= n {
-        return 3;
+        return Refusal::NO_CONTROLLER;
     }
     if j >= n {
-        return 3;
+        return Refusal::NO_CONTROLLER;
     }
     if m >= bank[Bank::COUNT] {
-        return 4;
+        return Refusal::NO_MESSAGE;
     }
-    0
+    Refusal::NONE
 }
 
 // The acting controller i is up, and j is in the set that the step takes it from.
@@ -52,12 +55,12 @@ fn moves(up: u16, i: u16, set: u16, j: u16) -> u16
     ensures { λ r. ⌜ r ≡ firstBroken (has up i else 6 ∷ has set j else 8 ∷ []) ⌝ }
 {
     if !sets::has(up, i) {
-        return 6;
+        return Refusal::ACTOR_DOWN;
     }
     if !sets::has(set, j) {
-        return 8;
+        return Refusal::NOT_THERE;
     }
-    0
+    Refusal::NONE
 }
 
 fn of_broadcast(bank: &[u16], who: u16, stamp: u16, value: u16) -> u16
@@ -65,13 +68,13 @@ fn of_broadcast(bank: &[u16], who: u16, stamp: u16, value: u16) -> u16
     ensures { λ r. ⌜ r ≡ Refusals.refusal paper (words paper (now (bank .entry))) (broadcast who stamp value) ⌝ }
 {
     let r = actor(bank, who);
-    if r != 0 {
+    if r != Refusal::NONE {
         return r;
     }
     if bank[Bank::COUNT] >= Bank::MESSAGES {
-        return 7;
+        return Refusal::BANK_FULL;
     }
-    0
+    Refusal::NONE
 }
 
 fn of_send(bank: &[u16], from: u16, to: u16, m: u16) -> u16
@@ -79,7 +82,7 @@ fn of_send(bank: &[u16], from: u16, to: u16, m: u16) -> u16
     ensures { λ r. ⌜ r ≡ Refusals.refusal paper (words paper (now (bank .entry))) (send from to m) ⌝ }
 {
     let r = copy(bank, from, to, m);
-    if r != 0 {
+    if r != Refusal::NONE {
         return r;
     }
     let up = bank[Bank::UP];
@@ -92,7 +95,7 @@ fn of_receive(bank: &[u16], i: u16, from: u16, m: u16) -> u16
     ensures { λ r. ⌜ r ≡ Refusals.refusal paper (words paper (now (bank .entry))) (receive i from m) ⌝ }
 {
     let r = copy(bank, i, from, m);
-    if r != 0 {
+    if r != Refusal::NONE {
         return r;
     }
     let up = bank[Bank::UP];
@@ -104,7 +107,7 @@ fn of_receive(bank: &[u16], i: u16, from: u16, m: u16) -> u16
 pub fn enough(mode: u16, n: u16, trusted: u16, received: u16) -> bool
     ensures { λ r. ⌜ r ≡ Refusals.enough mode n trusted received ⌝ }
 {
-    if mode == 1 {
+    if mode == Mode::ALL_ACK {
         return sets::within(trusted, received, n);
     }
     (n as u32) < 2 * sets::count_below(received, n)
@@ -125,12 +128,12 @@ fn undelivered(delivered: u16, i: u16, length: u16, count: u16) -> u16
     ensures { λ r. ⌜ r ≡ firstBroken (not (has delivered i) else 10 ∷ ltb length count else 1 ∷ []) ⌝ }
 {
     if sets::has(delivered, i) {
-        return 10;
+        return Refusal::ALREADY;
     }
     if length >= count {
-        return 1;
+        return Refusal::UNFIT;
     }
-    0
+    Refusal::NONE
 }
 
 fn of_deliver(bank: &[u16], i: u16, m: u16) -> u16
@@ -139,18 +142,18 @@ fn of_deliver(bank: &[u16], i: u16, m: u16) -> u16
 {
     let count = bank[Bank::COUNT];
     if i >= bank[Bank::N] {
-        return 3;
+        return Refusal::NO_CONTROLLER;
     }
     if m >= count {
-        return 4;
+        return Refusal::NO_MESSAGE;
     }
     let a = record_at(m);
     let r = moves(bank[Bank::UP], i, bank[a + Bank::HELD], i);
-    if r != 0 {
+    if r != Refusal::NONE {
         return r;
     }
     if !may_deliver(bank, i, m) {
-        return 9;
+        return Refusal::NOT_YET;
     }
     undelivered(
         bank[a + Bank::DELIVERED],
@@ -174,24 +177,24 @@ fn of_detect(bank: &[u16], i: u16, j: u16) -> u16
     let n = bank[Bank::N];
     let up = bank[Bank::UP];
     if i >= n {
-        return 3;
+        return Refusal::NO_CONTROLLER;
     }
     if j >= n {
-        return 3;
+        return Refusal::NO_CONTROLLER;
     }
-    if bank[Bank::MODE] != 1 {
-        return 5;
+    if bank[Bank::MODE] != Mode::ALL_ACK {
+        return Refusal::NO_DETECTION;
     }
     if !sets::has(up, i) {
-        return 6;
+        return Refusal::ACTOR_DOWN;
     }
     if sets::has(up, j) {
-        return 9;
+        return Refusal::NOT_YET;
     }
     if !sets::has(bank[Bank::VIEWS + i as usize], j) {
-        return 10;
+        return Refusal::ALREADY;
     }
-    0
+    Refusal::NONE
 }
 
 fn of_lose(bank: &[u16], from: u16, to: u16, m: u16) -> u16
@@ -199,20 +202,20 @@ fn of_lose(bank: &[u16], from: u16, to: u16, m: u16) -> u16
     ensures { λ r. ⌜ r ≡ Refusals.refusal paper (words paper (now (bank .entry))) (lose from to m) ⌝ }
 {
     let r = copy(bank, from, to, m);
-    if r != 0 {
+    if r != Refusal::NONE {
         return r;
     }
     if !sets::has(bank[record_at(m) + (Bank::IN_FLIGHT + to as usize)], from) {
-        return 8;
+        return Refusal::NOT_THERE;
     }
     let up = bank[Bank::UP];
     if !sets::has(up, from) {
-        return 0;
+        return Refusal::NONE;
     }
     if sets::has(up, to) {
-        return 9;
+        return Refusal::NOT_YET;
     }
-    0
+    Refusal::NONE
 }
 
 // What refuses the step that four numbers ask for; 2 where they ask for none.
@@ -221,31 +224,31 @@ pub(crate) fn of_asked(bank: &[u16], kind: u16, a: u16, b: u16, c: u16) -> u16
     ensures { λ r. ⌜ r ≡ askedRefusal paper (now (bank .entry)) (asked kind a b c) ⌝ }
 {
     match kind {
-        1 => of_broadcast(bank, a, b, c),
-        2 => of_send(bank, a, b, c),
-        3 => of_receive(bank, a, b, c),
-        4 => {
+        Kind::BROADCAST => of_broadcast(bank, a, b, c),
+        Kind::SEND => of_send(bank, a, b, c),
+        Kind::RECEIVE => of_receive(bank, a, b, c),
+        Kind::DELIVER => {
             if c != 0 {
-                return 2;
+                return Refusal::NO_STEP;
             }
             of_deliver(bank, a, b)
         }
-        5 => {
+        Kind::CRASH => {
             if b != 0 {
-                return 2;
+                return Refusal::NO_STEP;
             }
             if c != 0 {
-                return 2;
+                return Refusal::NO_STEP;
             }
             of_crash(bank, a)
         }
-        6 => {
+        Kind::DETECT => {
             if c != 0 {
-                return 2;
+                return Refusal::NO_STEP;
             }
             of_detect(bank, a, b)
         }
-        7 => of_lose(bank, a, b, c),
-        _ => 2,
+        Kind::LOSE => of_lose(bank, a, b, c),
+        _ => Refusal::NO_STEP,
     }
 }

@@ -7,6 +7,7 @@ ghost use Rattle.group.specs.Promises.{Allowed, after, askedAfter, refus
 use crate::Bank;
 use crate::bank::record_at;
 use crate::record;
+use numbers::Kind;
 
 fn broadcast(bank: &mut [u16], who: u16, stamp: u16, value: u16)
     requires { ⌜ Allowed paper (now bank) (Step.broadcast who stamp value) ⌝ }
@@ -81,13 +82,13 @@ pub(crate) fn apply(bank: &mut [u16], kind: u16, a: u16, b: u16, c: u16)
     ensures { λ _. ⌜ now (bank .exit) ≡ askedAfter paper (now (bank .entry)) (asked kind a b c) ⌝ }
 {
     match kind {
-        1 => broadcast(bank, a, b, c),
-        2 => send(bank, a, b, c),
-        3 => receive(bank, a, b, c),
-        4 => deliver(bank, a, b),
-        5 => crash(bank, a),
-        6 => detect(bank, a, b),
-        7 => lose(bank, a, b, c),
+        Kind::BROADCAST => broadcast(bank, a, b, c),
+        Kind::SEND => send(bank, a, b, c),
+        Kind::RECEIVE => receive(bank, a, b, c),
+        Kind::DELIVER => deliver(bank, a, b),
+        Kind::CRASH => crash(bank, a),
+        Kind::DETECT => detect(bank, a, b),
+        Kind::LOSE => lose(bank, a, b, c),
         _ => {}
     }
 }

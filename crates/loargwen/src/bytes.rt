@@ -4,6 +4,7 @@ ghost use Prim.Native.Nat.{_+_, _*_};
 ghost use lib.ListN.{length};
 ghost use Rattle.loargwen.specs.Bytes.{wordsOf, bytesOf};
 ghost use Rattle.loargwen.specs.Face.{bytesAfter};
+use numbers::Refusal;
 
 fn word(low: u8, high: u8) -> u16
     ensures { λ r. ⌜ r ≡ low + 256 * high ⌝ }
@@ -40,7 +41,7 @@ pub(crate) fn write_back(refusal: u16, words: &[u16], bytes: &mut [u8])
     requires { ⌜ length (now bytes) ≡ 2 * length (now words) ⌝ }
     ensures { λ _. ⌜ now (bytes .exit) ≡ bytesAfter (now (bytes .entry)) refusal (now (words .entry)) ⌝ }
 {
-    if refusal == 0 {
+    if refusal == Refusal::NONE {
         store(words, bytes);
     }
 }

@@ -9,6 +9,7 @@ ghost use Rattle.group.specs.Layout.{paper, size};
 ghost use Rattle.loargwen.specs.Face;
 ghost use Rattle.loargwen.specs.Face.{OpenBytes, StepBytes, SettleBytes, TallyBytes};
 use group::Bank;
+use numbers::Refusal;
 
 // How many bytes a bank has.
 const BYTES: usize = 4488;
@@ -41,7 +42,7 @@ pub extern "C" fn loargwen_open(bank: &mut [u8], n: u16, mode: u16) -> u16
     ensures { λ r. ⌜ OpenBytes (now (bank .entry)) n mode r (now (bank .exit)) ⌝ }
 {
     if bank.len() != BYTES {
-        return 1;
+        return Refusal::UNFIT;
     }
     let mut words = [0u16; Bank::WORDS];
     bytes::load(bank, &mut words);
@@ -55,7 +56,7 @@ pub extern "C" fn loargwen_step(bank: &mut [u8], kind: u16, a: u16, b: u16, c: u
     ensures { λ r. ⌜ StepBytes (now (bank .entry)) kind a b c r (now (bank .exit)) ⌝ }
 {
     if bank.len() != BYTES {
-        return 1;
+        return Refusal::UNFIT;
     }
     let mut words = [0u16; Bank::WORDS];
     bytes::load(bank, &mut words);
@@ -70,7 +71,7 @@ pub extern "C" fn loargwen_settle(bank: &mut [u8], budget: u16) -> Settled
 {
     if bank.len() != BYTES {
         return Settled {
-            refusal: 1,
+            refusal: Refusal::UNFIT,
             steps: 0,
             quiet: 0,
         };
@@ -98,7 +99,7 @@ pub extern "C" fn loargwen_tally(bank: &[u8], who: u16, on: u16) -> Day
 {
     if bank.len() != BYTES {
         return Day {
-            refusal: 1,
+            refusal: Refusal::UNFIT,
             count: 0,
             sum: 0,
         };

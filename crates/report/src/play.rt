@@ -6,6 +6,7 @@ ghost use lib.ListN.{length};
 ghost use Rattle.report.specs.Bench.{state, applied, playFrom};
 use file::Found;
 use file::Record;
+use numbers::Refusal;
 
 // The steps applied, and the refusal or 0.
 pub(crate) struct Played {
@@ -28,12 +29,12 @@ fn apply(bank: &mut [u16], steps: u32, r: Record) -> Played
         };
     }
     let refusal = group::step(bank, r.kind, r.a, r.b, r.c);
-    if refusal != 0 {
+    if refusal != Refusal::NONE {
         return Played { steps, refusal };
     }
     Played {
         steps: steps + 1,
-        refusal: 0,
+        refusal: Refusal::NONE,
     }
 }
 
@@ -49,14 +50,17 @@ pub(crate) fn play(bank: &mut [u16], s: &[u8]) -> Played
         let found = file::find_at(s, i);
         match found {
             Found::End => {
-                return Played { steps, refusal: 0 };
+                return Played {
+                    steps,
+                    refusal: Refusal::NONE,
+                };
             }
             Found::Bad(refusal) => {
                 return Played { steps, refusal };
             }
             Found::Got(r) => {
                 let t = apply(bank, steps, r);
-                if t.refusal != 0 {
+                if t.refusal != Refusal::NONE {
                     return t;
                 }
                 steps = t.steps;

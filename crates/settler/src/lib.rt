@@ -2,6 +2,7 @@
 mod search;
 
 ghost use Rattle.settler.specs.Settling.{SettlePromise};
+use numbers::Refusal;
 use search::Next;
 
 // 0 or 1, the steps taken, and whether no step is left.
@@ -17,7 +18,7 @@ pub fn settle(bank: &mut [u16], budget: u16) -> Settled
 {
     if !group::fit(bank) {
         return Settled {
-            refusal: 1,
+            refusal: Refusal::UNFIT,
             steps: 0,
             quiet: false,
         };
@@ -27,7 +28,7 @@ pub fn settle(bank: &mut [u16], budget: u16) -> Settled
         let next = search::first_step(bank);
         let Next::Take(m) = next else {
             return Settled {
-                refusal: 0,
+                refusal: Refusal::NONE,
                 steps,
                 quiet: true,
             };
@@ -36,7 +37,7 @@ pub fn settle(bank: &mut [u16], budget: u16) -> Settled
         steps += 1;
     }
     Settled {
-        refusal: 0,
+        refusal: Refusal::NONE,
         steps,
         quiet: search::is_quiet(bank),
     }

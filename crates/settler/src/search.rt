@@ -13,6 +13,8 @@ ghost use Rattle.settler.specs.Candidates.{below, pairs, ofMessage, firs
 ghost use Rattle.settler.specs.Moves.{nextOf, copy, CopyKind};
 ghost use Rattle.settler.specs.Settling.{onNext};
 use group::Bank;
+use numbers::Kind;
+use numbers::Mode;
 
 // The four numbers that ask for a step.
 pub struct Move {
@@ -36,7 +38,7 @@ fn first_detect(bank: &[u16]) -> Next
 {
     let n = bank[Bank::N];
     let up = bank[Bank::UP];
-    if bank[Bank::MODE] != 1 {
+    if bank[Bank::MODE] != Mode::ALL_ACK {
         return Next::Quiet;
     }
     let mut i = 0;
@@ -45,7 +47,7 @@ fn first_detect(bank: &[u16]) -> Next
             let j = sets::lowest(sets::less(bank[Bank::VIEWS + i as usize], up), n);
             if j < n {
                 return Next::Take(Move {
-                    kind: 6,
+                    kind: Kind::DETECT,
                     a: i,
                     b: j,
                     c: 0,
@@ -57,7 +59,7 @@ fn first_detect(bank: &[u16]) -> Next
     Next::Quiet
 }
 
-// The first copy of message m that is to be sent (kind 2) or received (kind 3) by a controller that is up. The set
+// The first copy of message m that is to be sent or received, by the kind, by a controller that is up. The set
 // words of that kind begin at `field` in the record.
 fn first_copy(bank: &[u16], kind: u16, field: usize, m: u16) -> Next
     requires { ⌜ Fit paper (now bank) ⌝ }
@@ -127,7 +129,7 @@ fn first_deliver(bank: &[u16], m: u16) -> Next
     while i < n {
         if may_deliver(bank, i, m) {
             return Next::Take(Move {
-                kind: 4,
+                kind: Kind::DELIVER,
                 a: i,
                 b: m,
                 c: 0,
@@ -145,11 +147,11 @@ fn first_of_message(bank: &[u16], m: u16) -> Next
     ensures { λ r. ⌜ r
         ≡ nextOf (firstOf (free paper (now (bank .entry))) (ofMessage (words paper (now (bank .entry)) N) m)) ⌝ }
 {
-    let sent = first_copy(bank, 2, Bank::UNSENT, m);
+    let sent = first_copy(bank, Kind::SEND, Bank::UNSENT, m);
     if let Next::Take(s) = sent {
         return Next::Take(s);
     }
-    let received = first_copy(bank, 3, Bank::IN_FLIGHT, m);
+    let received = first_copy(bank, Kind::RECEIVE, Bank::IN_FLIGHT, m);
     if let Next::Take(s) = received {
         return Next::Take(s);
     }

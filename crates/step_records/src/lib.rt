@@ -1,6 +1,7 @@
 // A Rattle caller's own list of step records, walked by one thin function over the group's single step.
 ghost use Rattle.step_records.specs.Records.{StepsPromise};
 use group::Ran;
+use numbers::Refusal;
 
 // One step: its kind and three numbers.
 #[repr(C)]
@@ -20,14 +21,14 @@ pub extern "C" fn run_steps(bank: &mut [u16], steps: &[Step]) -> Ran
     if !group::fit(bank) {
         return Ran {
             accepted: 0,
-            refusal: 1,
+            refusal: Refusal::UNFIT,
         };
     }
     let mut i: usize = 0;
     while i < steps.len() {
         let s = steps[i];
         let r = group::step(bank, s.kind, s.a, s.b, s.c);
-        if r != 0 {
+        if r != Refusal::NONE {
             return Ran {
                 accepted: i,
                 refusal: r,
@@ -37,6 +38,6 @@ pub extern "C" fn run_steps(bank: &mut [u16], steps: &[Step]) -> Ran
     }
     Ran {
         accepted: i,
-        refusal: 0,
+        refusal: Refusal::NONE,
     }
 }
