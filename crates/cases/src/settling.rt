@@ -2,7 +2,10 @@
 use crate::say;
 use crate::steps::eight_more;
 use crate::steps::opened;
-use group::Bank;
+use bank::Bank;
+use bank::FULL;
+use numbers::Kind;
+use numbers::Mode;
 
 fn say_settled(what: &[u8], s: settler::Settled) {
     say::refusal(what, s.refusal);
@@ -12,7 +15,7 @@ fn say_settled(what: &[u8], s: settler::Settled) {
 
 // 16 controllers with 32 broadcasts.
 fn full() -> [u16; Bank::WORDS] {
-    eight_more(eight_more(eight_more(eight_more(opened(16, 1)))))
+    eight_more(eight_more(eight_more(eight_more(opened(16, Mode::ALL_ACK)))))
 }
 
 fn fill(words: &mut [u16]) {
@@ -26,13 +29,13 @@ fn fill(words: &mut [u16]) {
 // A fit header over a body of set bits.
 fn spoilt() -> [u16; Bank::WORDS] {
     let mut bank = full();
-    fill(&mut bank[Bank::LOGS..]);
+    fill(&mut bank[bank::log_at(FULL, 0, 0)..]);
     bank
 }
 
 pub(crate) fn show() {
-    let mut bank = opened(1, 1);
-    group::step(&mut bank, 1, 0, 0, 0);
+    let mut bank = opened(1, Mode::ALL_ACK);
+    group::step(&mut bank, Kind::BROADCAST, 0, 0, 0);
     say_settled(
         b"settle one message of one controller with 2",
         settler::settle(&mut bank, 2),

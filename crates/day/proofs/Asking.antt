@@ -9,12 +9,13 @@ use lib.Dec.{eqb, leb}
 use lib.ListN.{length, drop, getD, drop-of-length-le}
 use lib.Seq.{drop-cons}
 use borrow.Author.Tests.{ne-eqb, le-leb, lt-leb}
-use Rattle.group.specs.Place.{Words, message, stamp, value}
-use Rattle.group.specs.Layout.{Layout, paper, words}
-use Rattle.group.specs.Fit.{fit}
-use Rattle.group.specs.Refusals.{Rule, _else_, firstBroken, Holds, isController, isMessage}
-use Rattle.group.specs.Logs.{logRefusal, logOf}
-use Rattle.group.proofs.Rules.{pass, stop, first-decides, rest-decides, all-hold, none-broken}
+use Rattle.bank.specs.Place.{Words, message, stamp, value}
+use Rattle.bank.specs.Layout.{Layout, words}
+use Rattle.bank.specs.Fit.{fit}
+use Rattle.bank.specs.Rules.{Rule, _else_, firstBroken}
+use Rattle.group.specs.State.{isController, isMessage}
+use Rattle.lists.specs.Logs.{logRefusal, logOf}
+use Rattle.bank.proofs.Rules.{pass, stop, first-decides, rest-decides, all-hold, none-broken}
 use Rattle.day.specs.Days.{lastDay}
 use Rattle.day.specs.Tallies.{DayAnswer, dayAnswer, empty, addEntry, addAll, allGiven}
 use Rattle.day.specs.Tallies.{tallyRefusal, tallyOf, TallyPromise}
@@ -69,18 +70,27 @@ module _ (L : Layout) (b : List ℕ) (who day : ℕ) where
       → tallyOf L b who day ≡ dayAnswer 0 (addAll day (words L b) empty (logOf L b who))
   tally-whole e = under-refusal 0 e
 
-  pub tests-hold : tallyRefusal L b who day ≡ 0 → Holds (ofLog ++ ofDay)
-  tests-hold e = all-hold (ofLog ++ ofDay) (tt, (tt, (tt, (tt, tt)))) e
+  -- what a tally that is not refused knows
+  pub record Counted : Type 0 where
+    pub sound : fit L b ≡ true
+    pub there : isController (words L b) who ≡ true
+    pub early : leb day lastDay ≡ true
+    pub given : allGiven (words L b) (logOf L b who) ≡ true
+
+  pub tests-hold : tallyRefusal L b who day ≡ 0 → Counted
+  tests-hold e =
+      let (sound, (there, (early, (given, _)))) = all-hold (ofLog ++ ofDay) (tt, (tt, (tt, (tt, tt)))) e in
+      record { sound = sound; there = there; early = early; given = given }
 
   pub log-free : tallyRefusal L b who day ≡ 0 → logRefusal L b who ≡ 0
-  log-free e = let h = tests-hold e in none-broken ofLog (h .0, (h .1 .0, tt))
+  log-free e = let h = tests-hold e in none-broken ofLog (h .sound, (h .there, tt))
 
 -- the same of the call's promise
-pub refused-nothing : (b : List ℕ) (who day : ℕ) {r n s : ℕ} → TallyPromise b who day r n s → (r ≡ 0 → ⊥)
+pub refused-nothing : (L : Layout) (b : List ℕ) (who day : ℕ) {r n s : ℕ} → TallyPromise L b who day r n s → (r ≡ 0 → ⊥)
     → (n ≡ 0) × (s ≡ 0)
 unfolding tallyOf
-refused-nothing b who day e z =
-    let q = e ∙ refused-empty paper b who day _ (sym (ap (λ a. a .refusal) e)) z in
+refused-nothing L b who day e z =
+    let q = e ∙ refused-empty L b who day _ (sym (ap (λ a. a .refusal) e)) z in
     (ap (λ a. a .tally .count) q, ap (λ a. a .tally .sum) q)
 
 -- where one day's tally is not refused, no day of the season's is
@@ -88,7 +98,7 @@ pub every-day : (L : Layout) (b : List ℕ) (who day : ℕ) → tallyRefusal L b
     → tallyRefusal L b who d ≡ 0
 every-day L b who day e d h =
     day-decides L b who d (log-free L b who day e)
-    ∙ none-broken (ofDay L b who d) (le-leb d lastDay h, tests-hold L b who day e .1 .1 .1)
+    ∙ none-broken (ofDay L b who d) (le-leb d lastDay h, (tests-hold L b who day e .given, tt))
 
 -- ---- one entry more
 

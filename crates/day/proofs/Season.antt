@@ -7,10 +7,10 @@ use native.Mathlib.Omega.{arith}
 use lib.Dec.{eqb}
 use lib.ListN.{length, drop, length-drop}
 use lib.Seq.{length-take-le}
-use Rattle.group.specs.Place.{Place, Words, log, message, stamp, value}
-use Rattle.group.specs.Layout.{paper, address, words}
-use Rattle.group.specs.Logs.{logRefusal, usedLength, logOf}
-use Rattle.group.proofs.Asking.{log-asked, whole-length}
+use Rattle.bank.specs.Place.{Place, Words, log, message, stamp, value}
+use Rattle.bank.specs.Layout.{paper, address, words}
+use Rattle.lists.specs.Logs.{logRefusal, usedLength, logOf}
+use Rattle.lists.proofs.Asking.{log-asked, whole-length}
 use Rattle.day.specs.Days.{dayOf, lastDay}
 use Rattle.day.specs.Tallies.{tallied, addEntry, addAll, tallyRefusal, tallyOf}
 use Rattle.day.specs.Season.{sumOver, season, AreWords, SeasonAddsUp}

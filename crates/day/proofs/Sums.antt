@@ -7,7 +7,7 @@ use native.Mathlib.Omega.{arith}
 use lib.Dec.{eqb}
 use lib.ListN.{length}
 use borrow.Author.Tests.{eqb-true, eqb-false, ne-eqb}
-use Rattle.group.specs.Layout.{upFrom}
+use Rattle.bank.specs.Layout.{upFrom}
 use Rattle.day.specs.Season.{sumOver}
 
 pub sum-same : (f g : ℕ → ℕ) → ((x : ℕ) → f x ≡ g x) → (xs : List ℕ) → sumOver f xs ≡ sumOver g xs

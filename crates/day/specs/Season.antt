@@ -3,9 +3,9 @@ use Prim.Native.Nat.{ℕ, _+_, _<_}
 use mathlib.Core.Path.{_≡_}
 use mathlib.Core.List.{List, [], _∷_}
 use lib.ListN.{getD}
-use Rattle.group.specs.Place.{message, value}
-use Rattle.group.specs.Layout.{paper, words, upFrom}
-use Rattle.group.specs.Logs.{usedLength, logOf}
+use Rattle.bank.specs.Place.{message, value}
+use Rattle.bank.specs.Layout.{paper, words, upFrom}
+use Rattle.lists.specs.Logs.{usedLength, logOf}
 use Rattle.day.specs.Days.{lastDay}
 use Rattle.day.specs.Tallies.{tallyRefusal, tallyOf}
 

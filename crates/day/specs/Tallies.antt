@@ -4,11 +4,12 @@ use mathlib.Core.Path.{_≡_}
 use mathlib.Core.Bool.{Bool, true, cond, _&&_}
 use mathlib.Core.List.{List, [], _∷_}
 use lib.Dec.{eqb, leb}
-use Rattle.group.specs.Place.{Words, message, stamp, value}
-use Rattle.group.specs.Layout.{Layout, paper, words}
-use Rattle.group.specs.Fit.{fit}
-use Rattle.group.specs.Refusals.{_else_, firstBroken, isController, isMessage}
-use Rattle.group.specs.Logs.{logOf}
+use Rattle.bank.specs.Place.{Words, message, stamp, value}
+use Rattle.bank.specs.Layout.{Layout, words}
+use Rattle.bank.specs.Fit.{fit}
+use Rattle.bank.specs.Rules.{_else_, firstBroken}
+use Rattle.group.specs.State.{isController, isMessage}
+use Rattle.lists.specs.Logs.{logOf}
 use Rattle.day.specs.Days.{dayOf, lastDay}
 use Rattle.day.specs.declared.entries.Tally.{Tally}
 
@@ -55,5 +56,5 @@ tallyOf L b who day =
     dayAnswer (tallyRefusal L b who day)
     (cond (eqb (tallyRefusal L b who day) 0) (addAll day (words L b) empty (logOf L b who)) empty)
 
-abbrev pub TallyPromise : List ℕ → ℕ → ℕ → ℕ → ℕ → ℕ → Type 0
-TallyPromise b who day r n s = dayAnswer r (tallied n s) ≡ tallyOf paper b who day
+abbrev pub TallyPromise : Layout → List ℕ → ℕ → ℕ → ℕ → ℕ → ℕ → Type 0
+TallyPromise L b who day r n s = dayAnswer r (tallied n s) ≡ tallyOf L b who day

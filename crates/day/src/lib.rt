@@ -1,7 +1,11 @@
-// The day tally over a log. Reads the bank through the group's questions and one record at a time; writes nothing.
+// The day tally over a log, in both sizes of bank; `tally_day` is the full bank's. Reads the bank through the group's
+// questions and a message's words by name; writes nothing.
 ghost use mathlib.Core.Path.{_≡_};
+ghost use Rattle.bank.specs.Layout.{paper, layout};
 ghost use Rattle.day.specs.Tallies.{TallyPromise};
-use group::Bank;
+use bank::Bank;
+use bank::FULL;
+use bank::Room;
 use numbers::Refusal;
 
 mod entries;
@@ -26,18 +30,18 @@ fn refused(number: u16) -> DayAnswer
 }
 
 // The count and the sum of a controller's log on a day.
-pub fn tally_day(bank: &[u16], who: u16, day: u16) -> DayAnswer
-    ensures { λ r. ⌜ TallyPromise (now (bank .entry)) who day (r .refusal) (r .count) (r .sum) ⌝ }
+fn tally_in(bank: &[u16], room: Room, who: u16, day: u16) -> DayAnswer
+    ensures { λ r. ⌜ TallyPromise (layout room) (now (bank .entry)) who day (r .refusal) (r .count) (r .sum) ⌝ }
 {
-    let l = group::log_length(bank, who);
+    let l = lists::log_length_in(bank, room, who);
     if l.refusal != Refusal::NONE {
         return refused(l.refusal);
     }
     if day > Tally::LAST_DAY {
         return refused(Refusal::NO_DAY);
     }
-    let log = group::log(bank, who);
-    let count = bank[Bank::COUNT];
+    let log = lists::log_in(bank, room, who);
+    let count = bank::word(bank, Bank::COUNT);
     let mut t = Tally::fresh();
     let mut k = 0;
     while k < log.len() {
@@ -45,8 +49,7 @@ pub fn tally_day(bank: &[u16], who: u16, day: u16) -> DayAnswer
         if m >= count {
             return refused(Refusal::UNFIT);
         }
-        let a = Bank::RECORDS + (m as usize) * Bank::RECORD;
-        t = t.add_entry(day, bank[a + Bank::STAMP], bank[a + Bank::VALUE]);
+        t = t.add_entry(day, bank::stamp(bank, room, m), bank::value(bank, room, m));
         k += 1;
     }
     DayAnswer {
@@ -54,4 +57,10 @@ pub fn tally_day(bank: &[u16], who: u16, day: u16) -> DayAnswer
         count: t.count,
         sum: t.sum,
     }
+}
+
+pub fn tally_day(bank: &[u16], who: u16, day: u16) -> DayAnswer
+    ensures { λ r. ⌜ TallyPromise paper (now (bank .entry)) who day (r .refusal) (r .count) (r .sum) ⌝ }
+{
+    tally_in(bank, FULL, who, day)
 }

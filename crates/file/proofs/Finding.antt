@@ -58,10 +58,15 @@ whole s i e =
     let p2 = both (leb (i + 2 + wordAt s i) (length s)) _ (p1 .1) in
     let p3 = both (eqb (wordAt s i % 2) 0) _ (p2 .1) in (leb-true _ _ (p2 .0), leb-true _ _ (p3 .1))
 
+-- the place after a record: at least six bytes on, and within the file
+pub record Next (s : List ℕ) (i j : ℕ) : Type 0 where
+  pub onward : i + 6 ≤ j
+  pub inside : j ≤ length s
+
 abbrev pub Onward : List ℕ → ℕ → Found → Type 0
 Onward s i end = Unit {0}
 Onward s i (bad r) = Unit {0}
-Onward s i (got kind x y z j) = (i + 6 ≤ j) × (j ≤ length s)
+Onward s i (got kind x y z j) = Next s i j
 
 pub goes-onward : (s : List ℕ) (i : ℕ) → Onward s i (findAt s i)
 unfolding findAt
@@ -70,10 +75,10 @@ goes-onward s i =
     by-test (Onward s i) (not (wellCut s i)) (λ _. tt) λ cut.
     by-test (Onward s i) (eqb (recordLength (wordAt s (i + 2))) 0 || eqb (wordAt s (i + 2)) openKind) (λ _. tt) λ _.
     by-test (Onward s i) (eqb (wordAt s i) (recordLength (wordAt s (i + 2))))
-    (λ _. let w = whole s i (not-false (wellCut s i) cut) in (omega arith, w .0)) λ _. tt
+    (λ _. let w = whole s i (not-false (wellCut s i) cut) in record { onward = omega arith; inside = w .0 }) λ _. tt
 
 pub record-onward : (s : List ℕ) (i : ℕ) {kind x y z j : ℕ} → got kind x y z j ≡ findAt s i
-    → (i + 6 ≤ j) × (j ≤ length s)
+    → Next s i j
 record-onward s i e = subst (Onward s i) (sym e) (goes-onward s i)
 
 -- ---- a file that is begun

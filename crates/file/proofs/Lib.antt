@@ -1,3 +1,3 @@
 -- Laws that belong to no one function; other crates cite them.
-pub mod Finding
-pub mod Determined
+pub mod Finding  -- what stands at a place, test by test; a record moves on and stays within the file
+pub mod Determined  -- what each promise allows is one answer

@@ -1,18 +1,17 @@
 -- What a function's tests decide: laws by which `search` finds, among the tests that were made, why an answer is right.
-use mathlib.Core.Path.{_≡_, sym, ap, _∙_}
+use mathlib.Core.Path.{_≡_, refl, sym, ap, _∙_}
 use mathlib.Core.Bool.{Bool, true, false, cond, not, _&&_, and-eq-true-iff, and-false}
 use mathlib.Core.List.{List, [], _∷_, _++_}
-use Prim.Native.Nat.{ℕ, _+_, _<_}
-use native.Mathlib.Omega.{arith}
-use lib.Dec.{T, leb, leb→le}
-use lib.ListN.{length, getD}
+use Prim.Native.Nat.{ℕ, _<_, _≤_}
+use lib.Dec.{eqb, ltb}
 use borrow.Author.Tests.{lt-ltb, le-ltb, eq-eqb, ne-eqb, not-true, not-false}
 use Rattle.sets.specs.Set.{has}
-use Rattle.group.specs.Layout.{paper, words, recordAt, recordSize}
-use Rattle.group.specs.Fit.{Fit}
-use Rattle.group.specs.Refusals.{Rule, _else_, firstBroken, actor, copy, enough}
-use Rattle.group.proofs.Rules.{Numbered, pass, stop, all-hold, first-decides, rest-decides}
-use Rattle.group.proofs.Bounds.{copy-below}
+use Rattle.bank.specs.Place.{Words}
+use Rattle.bank.specs.Layout.{Layout, words}
+use Rattle.bank.specs.Rules.{Rule, _else_, firstBroken}
+use Rattle.group.specs.Delivery.{mayDeliver}
+use Rattle.group.specs.Refusals.{actor, ends}
+use Rattle.bank.proofs.Rules.{Numbered, pass, stop, first-decides, rest-decides}
 
 -- ---- one test after another
 
@@ -38,40 +37,49 @@ first-broken s t e = rw e
 pub second-broken : (s t : Bool) → t ≡ false → (s && t) ≡ false
 second-broken s t e = rw e (and-false s)
 
--- ---- a test that a call makes, where r is what the call gave back
+-- ---- a test of a word x of the bank, where r is what its reader gave back
 
-module _ (t r : Bool) (e : r ≡ t) where
-  pub tested-true : not r ≡ false → t ≡ true
-  tested-true h = sym e ∙ not-false r h
+module _ (x r : ℕ) (here : r ≡ x) where
+  pub read-below : (i : ℕ) → i < r → ltb i x ≡ true
+  read-below i h = lt-ltb i x (rw here at h)
 
-  pub tested-false : not r ≡ true → t ≡ false
-  tested-false h = sym e ∙ not-true r h
+  pub read-beyond : (i : ℕ) → r ≤ i → ltb i x ≡ false
+  read-beyond i h = le-ltb i x (rw here at h)
 
--- the same of each test that is made so, by name: `search` would try the two above at every test
-module _ (w i : ℕ) (r : Bool) (e : r ≡ has w i) where
-  pub has-tested : (v : Bool) → r ≡ v → has w i ≡ v
-  has-tested v h = sym e ∙ h
+  pub read-is : (k : ℕ) → r ≡ k → eqb x k ≡ true
+  read-is k h = eq-eqb x k (sym here ∙ h)
 
-  pub has-true : not r ≡ false → has w i ≡ true
-  has-true = tested-true (has w i) r e
+  pub read-is-not : (k : ℕ) → (r ≡ k → ⊥) → eqb x k ≡ false
+  read-is-not k h = ne-eqb x k (λ e. h (here ∙ e))
 
-  pub has-false : not r ≡ true → has w i ≡ false
-  has-false = tested-false (has w i) r e
+-- whether i is in a set word, where t is what `has` gave back
+module _ (x r i : ℕ) (here : r ≡ x) (t : Bool) (e : t ≡ has r i) where
+  pub has-tested : (v : Bool) → t ≡ v → has x i ≡ v
+  has-tested v h = ap (λ (w : ℕ). has w i) (sym here) ∙ sym e ∙ h
 
-module _ (k n u w : ℕ) (r : Bool) (e : r ≡ enough k n u w) where
-  pub enough-true : not r ≡ false → enough k n u w ≡ true
-  enough-true = tested-true (enough k n u w) r e
+  pub has-true : not t ≡ false → has x i ≡ true
+  has-true h = has-tested true (not-false t h)
 
-  pub enough-false : not r ≡ true → enough k n u w ≡ false
-  enough-false = tested-false (enough k n u w) r e
+  pub has-false : not t ≡ true → has x i ≡ false
+  has-false h = has-tested false (not-true t h)
+
+module _ (w : Words) (i m : ℕ) (t : Bool) (e : t ≡ mayDeliver w i m) where
+  pub may-deliver : not t ≡ false → mayDeliver w i m ≡ true
+  may-deliver h = sym e ∙ not-false t h
+
+  pub may-not-deliver : not t ≡ true → mayDeliver w i m ≡ false
+  may-not-deliver h = sym e ∙ not-true t h
 
 pub ruleset tested = (
   passed,
   stopped,
+  refl,
+  read-below,
+  read-beyond,
+  read-is,
+  read-is-not,
   lt-ltb,
   le-ltb,
-  eq-eqb,
-  ne-eqb,
   not-held,
   not-broken,
   both-hold,
@@ -80,8 +88,8 @@ pub ruleset tested = (
   has-tested,
   has-true,
   has-false,
-  enough-true,
-  enough-false,
+  may-deliver,
+  may-not-deliver,
 )
 
 -- ---- tests that a call makes first, where r is what the call gave back
@@ -106,19 +114,19 @@ allows rs x k r y z e h = h ∙ sym (rest-decides rs (false else x ∷ []) k (sy
 abbrev moved : ℕ → ℕ → ℕ → ℕ → List Rule
 moved up i set j = has up i else 6 ∷ has set j else 8 ∷ []
 
-module _ (b : List ℕ) (i x : ℕ) where
-  pub actor-refuses : Refuses (actor (words paper b) i) x
-  actor-refuses = refuses (actor (words paper b) i) x
+module _ (L : Layout) (b : List ℕ) (i x : ℕ) where
+  pub actor-refuses : Refuses (actor (words L b) i) x
+  actor-refuses = refuses (actor (words L b) i) x
 
-  pub actor-allows : Allows (actor (words paper b) i) x
-  actor-allows = allows (actor (words paper b) i) x (tt, (tt, tt))
+  pub actor-allows : Allows (actor (words L b) i) x
+  actor-allows = allows (actor (words L b) i) x (tt, (tt, tt))
 
-module _ (b : List ℕ) (i j m x : ℕ) where
-  pub copy-refuses : Refuses (copy (words paper b) i j m) x
-  copy-refuses = refuses (copy (words paper b) i j m) x
+module _ (L : Layout) (b : List ℕ) (i j m x : ℕ) where
+  pub ends-refuse : Refuses (ends (words L b) i j m) x
+  ends-refuse = refuses (ends (words L b) i j m) x
 
-  pub copy-allows : Allows (copy (words paper b) i j m) x
-  copy-allows = allows (copy (words paper b) i j m) x (tt, (tt, (tt, tt)))
+  pub ends-allow : Allows (ends (words L b) i j m) x
+  ends-allow = allows (ends (words L b) i j m) x (tt, (tt, (tt, tt)))
 
 module _ (up i set j x : ℕ) where
   pub moves-refuses : Refuses (moved up i set j) x
@@ -127,37 +135,4 @@ module _ (up i set j x : ℕ) where
   pub moves-allows : Allows (moved up i set j) x
   moves-allows = allows (moved up i set j) x (tt, (tt, tt))
 
-pub ruleset parted = (actor-refuses, actor-allows, copy-refuses, copy-allows, moves-refuses, moves-allows)
-
--- ---- a word of a message's record, read where a call said that the record begins
-
-module _ (b : List ℕ) (a m k : ℕ) (here : a ≡ recordAt paper m) where
-  pub record-has : (i : ℕ) (v : Bool) → has (getD b (a + k) 0) i ≡ v → has (getD b (recordAt paper m + k) 0) i ≡ v
-  record-has i v h = rw here at h
-
-  pub record-moves : (up i j r : ℕ) → r ≡ firstBroken (moved up i (getD b (a + k) 0) j)
-      → r ≡ firstBroken (moved up i (getD b (recordAt paper m + k) 0) j)
-  record-moves up i j r h = rw here at h
-
-  pub record-undelivered : (i r x : ℕ) → r ≡ cond (not (has (getD b (a + k) 0) i)) x 10
-      → r ≡ cond (not (has (getD b (recordAt paper m + k) 0) i)) x 10
-  record-undelivered i r x h = rw here at h
-
-pub ruleset recorded = (record-has, record-moves, record-undelivered)
-
--- ---- where the words of both controllers stand once a copy's tests have passed
-
-module _ (b : List ℕ) (i j m r a k : ℕ) (f : Fit paper b) (z : r ≡ 0) (e : r ≡ firstBroken (copy (words paper b) i j m))
-    (here : a ≡ recordAt paper m) (fits : T (leb (k + 16) (recordSize paper))) where
-  below : (i < 16) × (j < 16) × (m < 32)
-  below =
-      let h = all-hold (copy (words paper b) i j m) (tt, (tt, (tt, tt))) (sym e ∙ z) in
-      copy-below paper b f (h .0) (h .1 .0) (h .1 .1 .0)
-
-  pub first-inside : a + (k + i) < length b
-  first-inside = let h = below in omega (arith, leb→le)
-
-  pub second-inside : a + (k + j) < length b
-  second-inside = let h = below in omega (arith, leb→le)
-
-pub ruleset copied = (tt, first-inside, second-inside)
+pub ruleset parted = (actor-refuses, actor-allows, ends-refuse, ends-allow, moves-refuses, moves-allows)

@@ -3,19 +3,19 @@ use Prim.Native.Nat.{ℕ}
 use mathlib.Core.Path.{_≡_}
 use mathlib.Core.List.{List}
 use mathlib.Core.Option.{some}
-use Rattle.group.specs.Layout.{Layout}
-use Rattle.group.specs.Opening.{answer}
-use Rattle.group.specs.Step.{Step, asked}
+use Rattle.bank.specs.Layout.{Layout}
+use Rattle.bank.specs.Opening.{answer}
+use Rattle.group.specs.Step.{Step, Asked, asked}
 use Rattle.group.specs.Promises.{Allowed, after, stepOf}
 
 -- of one call of step, on any bank and with any numbers
-pub record Demand2 (L : Layout) (b : List ℕ) (kind x y z : ℕ) : Type 0 where
+pub record Demand2 (L : Layout) (b : List ℕ) (x : Asked) : Type 0 where
   -- "a step that the rules allow is never refused"
-  pub allowed-done : (s : Step) → asked kind x y z ≡ some s → Allowed L b s
-      → stepOf L b kind x y z ≡ answer 0 (after L b s)
+  pub allowed-done : (s : Step) → asked x ≡ some s → Allowed L b s
+      → stepOf L b x ≡ answer 0 (after L b s)
   -- "Each accepted step does exactly what .. says": where 0 is answered, one step was asked for and allowed
-  pub done-allowed : stepOf L b kind x y z .refusal ≡ 0
+  pub done-allowed : stepOf L b x .refusal ≡ 0
       → (s : Step)
-      × (asked kind x y z ≡ some s)
+      × (asked x ≡ some s)
       × Allowed L b s
-      × (stepOf L b kind x y z ≡ answer 0 (after L b s))
+      × (stepOf L b x ≡ answer 0 (after L b s))

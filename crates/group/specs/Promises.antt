@@ -5,11 +5,12 @@ use mathlib.Core.Bool.{cond}
 use mathlib.Core.List.{List}
 use mathlib.Core.Option.{Option, none, some}
 use lib.Dec.{eqb}
-use Rattle.group.specs.Layout.{Layout, paper, address, words, puts}
-use Rattle.group.specs.Fit.{Fit, fit}
-use Rattle.group.specs.Opening.{Answer, answer, openOf}
-use Rattle.group.specs.Step.{Step, asked}
-use Rattle.group.specs.Refusals.{Holds, rules, refusal}
+use Rattle.bank.specs.Layout.{Layout, address, words, puts}
+use Rattle.bank.specs.Fit.{Fit, fit}
+use Rattle.bank.specs.Opening.{Answer, answer}
+use Rattle.group.specs.Step.{Step, Asked, asked}
+use Rattle.bank.specs.Rules.{Holds}
+use Rattle.group.specs.Refusals.{rules, refusal}
 use Rattle.group.specs.Writes.{writes}
 
 -- the bank with a step's writes
@@ -25,14 +26,14 @@ abbrev pub askedAfter : Layout → List ℕ → Option Step → List ℕ
 askedAfter L b none = b
 askedAfter L b (some s) = after L b s
 
-unfoldable pub refusalOf : Layout → List ℕ → ℕ → ℕ → ℕ → ℕ → ℕ
-refusalOf L b kind x y z = cond (fit L b) (askedRefusal L b (asked kind x y z)) 1
+unfoldable pub refusalOf : Layout → List ℕ → Asked → ℕ
+refusalOf L b x = cond (fit L b) (askedRefusal L b (asked x)) 1
 
 -- one step: its refusal, and the bank with its writes where nothing refuses it
-unfoldable pub stepOf : Layout → List ℕ → ℕ → ℕ → ℕ → ℕ → Answer
-stepOf L b kind x y z =
-    answer (refusalOf L b kind x y z)
-    (cond (eqb (refusalOf L b kind x y z) 0) (askedAfter L b (asked kind x y z)) b)
+unfoldable pub stepOf : Layout → List ℕ → Asked → Answer
+stepOf L b x =
+    answer (refusalOf L b x)
+    (cond (eqb (refusalOf L b x) 0) (askedAfter L b (asked x)) b)
 
 -- a step that nothing refuses, as the facts that its writes rest on
 pub record Allowed (L : Layout) (b : List ℕ) (s : Step) : Type 0 where
@@ -41,11 +42,8 @@ pub record Allowed (L : Layout) (b : List ℕ) (s : Step) : Type 0 where
 
 -- ---- the promises, of the bank before, the arguments, the answer and the bank afterwards
 
-abbrev pub OpenPromise : List ℕ → ℕ → ℕ → ℕ → List ℕ → Type 0
-OpenPromise b n k r b′ = answer r b′ ≡ openOf paper b n k
+abbrev pub RefusalPromise : Layout → List ℕ → Asked → ℕ → Type 0
+RefusalPromise L b x r = r ≡ refusalOf L b x
 
-abbrev pub RefusalPromise : List ℕ → ℕ → ℕ → ℕ → ℕ → ℕ → Type 0
-RefusalPromise b kind x y z r = r ≡ refusalOf paper b kind x y z
-
-abbrev pub StepPromise : List ℕ → ℕ → ℕ → ℕ → ℕ → ℕ → List ℕ → Type 0
-StepPromise b kind x y z r b′ = answer r b′ ≡ stepOf paper b kind x y z
+abbrev pub StepPromise : Layout → List ℕ → Asked → ℕ → List ℕ → Type 0
+StepPromise L b x r b′ = answer r b′ ≡ stepOf L b x

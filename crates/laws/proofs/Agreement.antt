@@ -5,12 +5,12 @@ use mathlib.Core.List.{List}
 use Prim.Native.Nat.{ℕ, _<_}
 use native.Mathlib.Omega.{arith}
 use Rattle.sets.specs.Set.{has, countBelow}
-use Rattle.group.specs.Place.{N, count, up, message, sender, held, delivered}
-use Rattle.group.specs.Layout.{Layout, words}
-use Rattle.group.specs.Fit.{Fit}
+use Rattle.bank.specs.Place.{N, count, up, message, sender, held, delivered}
+use Rattle.bank.specs.Layout.{Layout, words}
+use Rattle.bank.specs.Fit.{Fit}
 use Rattle.group.specs.Step.{Step}
-use Rattle.group.specs.Refusals.{isUp, holding, hasDelivered}
-use Rattle.group.specs.Logs.{logOf}
+use Rattle.group.specs.State.{isUp, holding, hasDelivered}
+use Rattle.lists.specs.Logs.{logOf}
 use Rattle.group.specs.Promises.{Allowed, after}
 use Rattle.laws.specs.Runs.{Run, Ended, Settling}
 use Rattle.laws.specs.Logs.{occurs}

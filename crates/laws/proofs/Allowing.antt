@@ -1,135 +1,95 @@
 -- What a bank allows its sets allow, and what they allow of settling the bank allows where a log has room.
-use mathlib.Core.Path.{_≡_, refl, sym, ap, ap₂, _∙_}
-use mathlib.Core.Bool.{Bool, true, false, not, _&&_}
-use mathlib.Core.List.{List, [], _∷_, _++_}
+use mathlib.Core.Path.{_≡_, sym, ap, ap₂, _∙_}
+use mathlib.Core.Bool.{false, not, _&&_}
+use mathlib.Core.List.{List}
 use Prim.Native.Nat.{ℕ, _<_}
 use native.Mathlib.Omega.{arith}
-use borrow.Author.Tests.{lt-ltb, ltb-true, eq-eqb, ne-eqb, eqb-true, not-true}
-use Rattle.sets.specs.Set.{has, within, countBelow}
-use Rattle.sets.proofs.Counts.{every-at, every-is}
-use Rattle.group.specs.Place.{Field, Place, N, mode, count, up, view, logLength, message}
-use Rattle.group.specs.Place.{held, delivered, acked, unsent, inFlight}
-use Rattle.group.specs.Layout.{Layout, words, PlaceIn, FieldIn}
-use Rattle.group.specs.Fit.{Fit, allAck}
+use borrow.Author.Tests.{lt-ltb, ltb-true, eq-eqb, eqb-true, not-true}
+use Rattle.sets.specs.Set.{has}
+use Rattle.bank.specs.Place.{Field, Place, Words, N, mode, count, up, view, logLength, message}
+use Rattle.bank.specs.Place.{held, delivered, acked, unsent, inFlight}
+use Rattle.bank.specs.Layout.{Layout, words, PlaceIn, FieldIn}
+use Rattle.bank.specs.Fit.{Fit}
 use Rattle.group.specs.Step.{Step, broadcast, send, receive, deliver, crash, detect, lose}
-use Rattle.group.specs.Refusals.{_else_, Holds, copy, isUp, enough}
+use Rattle.group.specs.Delivery.{enough}
 use Rattle.group.specs.Promises.{Allowed}
-use Rattle.group.proofs.Bounds.{controller-below, message-below, copy-below}
+use Rattle.group.proofs.Granted.{Ends, broadcast-granted, send-granted, receive-granted, deliver-granted, crash-granted}
+use Rattle.group.proofs.Granted.{detect-granted, lose-granted, send-holds, receive-holds, deliver-holds, detect-holds}
+use Rattle.group.proofs.Bounds.{EndsIn, controller-below, message-below, ends-below}
 use Rattle.laws.proofs.Onward.{SettlingKind, sends, receives, delivers, detects}
 use Rattle.laws.proofs.Sets.{enoughOf, Named, Ok}
-use Rattle.laws.proofs.Enough.{by-mode, implies, all-trusted, all-enough, more-than-half, most-enough}
+use Rattle.laws.proofs.Enough.{one-test}
 use Rattle.laws.proofs.Visible.{visible, seen-in}
 use Rattle.laws.proofs.Bridge.{recordSets, sets}
 use Rattle.laws.proofs.Steps.{setsOf}
 
--- the group's delivery test of two words is the test of the sets that they are
-one-test : (k n x y : ℕ) → enoughOf k n (has x) (has y) ≡ enough k n x y
-unfolding enough within countBelow
-one-test k n x y = same-truth _ _ passes passed
-  where
-    same-truth : (s t : Bool) → (s ≡ true → t ≡ true) → (t ≡ true → s ≡ true) → s ≡ t
-    same-truth true t f g = sym (f refl)
-    same-truth false true f g = g refl
-    same-truth false false f g = refl
-
-    passes : enoughOf k n (has x) (has y) ≡ true → enough k n x y ≡ true
-    passes h =
-        by-mode k _
-        (λ e. rw (eq-eqb k allAck e)
-        (every-is _ n (λ i l. implies (has x i) (has y i) (all-trusted k n (has x) (has y) e h i l))))
-        (λ d. rw (ne-eqb k allAck d) (lt-ltb n _ (more-than-half k n (has x) (has y) d h)))
-
-    passed : enough k n x y ≡ true → enoughOf k n (has x) (has y) ≡ true
-    passed h =
-        by-mode k _
-        (λ e. all-enough k n (has x) (has y) e
-        (λ i l u. rw u at (every-at _ n (rw (eq-eqb k allAck e) at h) i l)))
-        (λ d. most-enough k n (has x) (has y) d (ltb-true n _ (rw (ne-eqb k allAck d) at h)))
-
 module _ (L : Layout) (b : List ℕ) where
+  abbrev w : Words
+  w = words L b
+
   -- a set word of a place that the layout has
-  same-has : (p : Place) (j : ℕ) → PlaceIn L p → has (visible L (words L b) p) j ≡ has (words L b p) j
-  same-has p j h = ap (λ x. has x j) (seen-in L (words L b) p h)
+  same-has : (p : Place) (j : ℕ) → PlaceIn L p → has (visible L w p) j ≡ has (w p) j
+  same-has p j h = ap (λ x. has x j) (seen-in L w p h)
 
   -- the names of a copy, and the set word g of its record: seen or read, k is in it or not
-  named : (i j m : ℕ) → Holds (copy (words L b) i j m) → Named (setsOf L b) i j m
+  ends-named : {i j m : ℕ} → Ends w i j m → Named (setsOf L b) i j m
   unfolding setsOf sets visible
-  named i j m h = (ltb-true _ _ (h .0), ltb-true _ _ (h .1 .0), ltb-true _ _ (h .1 .1 .0))
+  ends-named e = (ltb-true _ _ (e .first), ltb-true _ _ (e .second), ltb-true _ _ (e .given))
 
-  same-copy : Fit L b → (i j m k : ℕ) (g : Field) → Holds (copy (words L b) i j m)
-      → (i < L .controllers → j < L .controllers → FieldIn L g)
-      → has (visible L (words L b) (message m g)) k ≡ has (words L b (message m g)) k
-  same-copy f i j m k g h own =
-      let d = copy-below L b f (h .0) (h .1 .0) (h .1 .1 .0) in same-has (message m g) k (d .2, own (d .0) (d .1))
+  named-ends : {i j m : ℕ} → Named (setsOf L b) i j m → Ends w i j m
+  unfolding setsOf sets visible
+  named-ends (hi, hj, hm) = record { first = lt-ltb _ _ hi; second = lt-ltb _ _ hj; given = lt-ltb _ _ hm }
 
-  -- what a send and a receipt ask for: i acts, and the set g of i's has j
-  module _ (f : Fit L b) (i j m : ℕ) (g : Field) (own : i < L .controllers → j < L .controllers → FieldIn L g) where
-    abbrev Asked : Type 0
-    Asked = Holds (copy (words L b) i j m ++ (isUp (words L b) i else 6 ∷ has (words L b (message m g)) j else 8 ∷ []))
-
-    abbrev Seen : Type 0
-    Seen =
-        Named (setsOf L b) i j m
-        × (setsOf L b .up i ≡ true)
-        × (has (visible L (words L b) (message m g)) j ≡ true)
-
-    asked-seen : Asked → Seen
-    unfolding setsOf sets visible
-    asked-seen h =
-        let c : Holds (copy (words L b) i j m) = (h .0, (h .1 .0, (h .1 .1 .0, tt))) in
-        (named i j m c, h .1 .1 .1 .0, same-copy f i j m j g c own ∙ h .1 .1 .1 .1 .0)
-
-    seen-asked : Seen → Asked
-    unfolding setsOf sets visible
-    seen-asked ((hi, hj, hm), u, h) =
-        let c : Holds (copy (words L b) i j m) = (lt-ltb _ _ hi, (lt-ltb _ _ hj, (lt-ltb _ _ hm, tt))) in
-        (c .0, (c .1 .0, (c .1 .1 .0, (u, (sym (same-copy f i j m j g c own) ∙ h, tt)))))
+  same-copy : Fit L b → {i j m : ℕ} → Ends w i j m → (k : ℕ) (g : Field) → (EndsIn L i j m → FieldIn L g)
+      → has (visible L w (message m g)) k ≡ has (w (message m g)) k
+  same-copy f {m = m} e k g own = let d = ends-below L b f e in same-has (message m g) k (d .message, own d)
 
   same-enough : (k n i m : ℕ) → i < L .controllers → m < L .messages
-      → enoughOf k n (λ a. has (visible L (words L b) (view i)) a) (λ a. has (visible L (words L b) (message m
-      (acked i))) a)
-      ≡ enough k n (words L b (view i)) (words L b (message m (acked i)))
+      → enoughOf k n (has (visible L w (view i))) (has (visible L w (message m (acked i))))
+      ≡ enough k n (w (view i)) (w (message m (acked i)))
   same-enough k n i m hi hm =
       one-test k n _ _
-      ∙ ap₂ (λ x y. enough k n x y) (seen-in L (words L b) (view i) hi) (seen-in L (words L b) (message m (acked i))
-      (hm, hi))
+      ∙ ap₂ (enough k n) (seen-in L w (view i) hi) (seen-in L w (message m (acked i)) (hm, hi))
 
   pub allowed-ok : (s : Step) → Allowed L b s → Ok (L .messages) (setsOf L b) s
   unfolding setsOf sets recordSets visible
   allowed-ok (broadcast who s v) a =
-      (ltb-true _ _ (a .free .0), a .free .1 .0, ltb-true _ _ (a .free .1 .1 .0))
-  allowed-ok (send from to m) a = asked-seen (a .sound) from to m (unsent from) (λ x y. x) (a .free)
-  allowed-ok (receive i from m) a = asked-seen (a .sound) i from m (inFlight i) (λ x y. x) (a .free)
+      let g = broadcast-granted L w s v (a .free) in (ltb-true _ _ (g .there), g .up, ltb-true _ _ (g .room))
+  allowed-ok (send from to m) a =
+      let g = send-granted L w (a .free) in
+      (ends-named (g .ends), g .up, same-copy (a .sound) (g .ends) to (unsent from) (λ e. e .first) ∙ g .owed)
+  allowed-ok (receive i from m) a =
+      let g = receive-granted L w (a .free) in
+      (ends-named (g .ends), g .up, same-copy (a .sound) (g .ends) from (inFlight i) (λ e. e .first) ∙ g .flies)
   allowed-ok (deliver i m) a =
-      let f = a .free in
-      let j = controller-below L b (a .sound) i (f .0) in
-      let k = message-below L b (a .sound) m (f .1 .0) in
+      let g = deliver-granted L w (a .free) .due in
+      let j = controller-below L b (a .sound) i (g .there) in
+      let k = message-below L b (a .sound) m (g .given) in
       let one : 0 < 1 = omega arith in (
-        (ltb-true _ _ (f .0), ltb-true _ _ (f .1 .0)),
-        f .1 .1 .0,
+        (ltb-true _ _ (g .there), ltb-true _ _ (g .given)),
+        g .up,
         (
-          same-has (message m held) i (k, one) ∙ f .1 .1 .1 .0,
-          same-has (message m delivered) i (k, one) ∙ not-true _ (f .1 .1 .1 .1 .1 .0),
-          same-enough (words L b mode) (words L b N) i m j k ∙ f .1 .1 .1 .1 .0,
+          same-has (message m held) i (k, one) ∙ g .holds,
+          same-has (message m delivered) i (k, one) ∙ not-true _ (g .new),
+          same-enough (w mode) (w N) i m j k ∙ g .passes,
         ),
       )
-  allowed-ok (crash who) a = (ltb-true _ _ (a .free .0), a .free .1 .0)
+  allowed-ok (crash who) a = let g = crash-granted L w (a .free) in (ltb-true _ _ (g .there), g .up)
   allowed-ok (detect i j) a =
-      let f = a .free in (
-        (ltb-true _ _ (f .0), ltb-true _ _ (f .1 .0)),
-        f .1 .1 .1 .0,
+      let g = detect-granted L w (a .free) in (
+        (ltb-true _ _ (g .first), ltb-true _ _ (g .second)),
+        g .up,
         (
-          eqb-true _ _ (f .1 .1 .0),
-          not-true _ (f .1 .1 .1 .1 .0),
-          same-has (view i) j (controller-below L b (a .sound) i (f .0)) ∙ f .1 .1 .1 .1 .1 .0,
+          eqb-true _ _ (g .detecting),
+          not-true _ (g .down),
+          same-has (view i) j (controller-below L b (a .sound) i (g .first)) ∙ g .trusts,
         ),
       )
   allowed-ok (lose from to m) a =
-      let f = a .free in
-      let c : Holds (copy (words L b) from to m) = (f .0, (f .1 .0, (f .1 .1 .0, tt))) in
-      let down : (setsOf L b .up from && setsOf L b .up to) ≡ false = not-true _ (f .1 .1 .1 .1 .0) in (
-        named from to m c,
-        same-copy (a .sound) from to m from (inFlight to) c (λ x y. y) ∙ f .1 .1 .1 .0,
+      let g = lose-granted L w (a .free) in
+      let down : (setsOf L b .up from && setsOf L b .up to) ≡ false = not-true _ (g .down) in (
+        ends-named (g .ends),
+        same-copy (a .sound) (g .ends) from (inFlight to) (λ e. e .second) ∙ g .flies,
         (cc),
       )
 
@@ -138,52 +98,54 @@ module _ (L : Layout) (b : List ℕ) where
   Roomy (broadcast who s v) = Unit {0}
   Roomy (send from to m) = Unit {0}
   Roomy (receive i from m) = Unit {0}
-  Roomy (deliver i m) = words L b (logLength i) < words L b count
+  Roomy (deliver i m) = w (logLength i) < w count
   Roomy (crash who) = Unit {0}
   Roomy (detect i j) = Unit {0}
   Roomy (lose from to m) = Unit {0}
 
   pub ok-allowed : Fit L b → {s : Step} → SettlingKind s → Roomy s → Ok (L .messages) (setsOf L b) s → Allowed L b s
   unfolding setsOf sets recordSets visible
-  ok-allowed f (sends {from} {to} {m}) r o =
-      record { sound = f; free = seen-asked f from to m (unsent from) (λ x y. x) o }
-  ok-allowed f (receives {i} {from} {m}) r o =
-      record { sound = f; free = seen-asked f i from m (inFlight i) (λ x y. x) o }
+  ok-allowed f (sends {from} {to} {m}) r (n, u, h) =
+      let e = named-ends n in
+      let owed = sym (same-copy f e to (unsent from) (λ d. d .first)) ∙ h in
+      record { sound = f; free = send-holds L w (record { ends = e; up = u; owed = owed }) }
+  ok-allowed f (receives {i} {from} {m}) r (n, u, h) =
+      let e = named-ends n in
+      let flies = sym (same-copy f e from (inFlight i) (λ d. d .first)) ∙ h in
+      record { sound = f; free = receive-holds L w (record { ends = e; up = u; flies = flies }) }
   ok-allowed f (delivers {i} {m}) r (n, u, h) =
-      let j = controller-below L b f i (lt-ltb _ _ (n .0)) in
-      let k = message-below L b f m (lt-ltb _ _ (n .1)) in
+      let there = lt-ltb _ _ (n .0) in
+      let given = lt-ltb _ _ (n .1) in
+      let j = controller-below L b f i there in
+      let k = message-below L b f m given in
       let one : 0 < 1 = omega arith in
       record {
         sound = f;
-        free = (
-          lt-ltb _ _ (n .0),
-          (
-            lt-ltb _ _ (n .1),
-            (
-              u,
-              (
-                sym (same-has (message m held) i (k, one)) ∙ h .0,
-                (
-                  sym (same-enough (words L b mode) (words L b N) i m j k) ∙ h .2,
-                  (ap not (sym (same-has (message m delivered) i (k, one)) ∙ h .1), (lt-ltb _ _ r, tt)),
-                ),
-              ),
-            ),
-          ),
-        );
+        free = deliver-holds L w
+            (record {
+              due = record {
+                there = there;
+                given = given;
+                up = u;
+                holds = sym (same-has (message m held) i (k, one)) ∙ h .0;
+                passes = sym (same-enough (w mode) (w N) i m j k) ∙ h .2;
+                new = ap not (sym (same-has (message m delivered) i (k, one)) ∙ h .1);
+              };
+              room = lt-ltb _ _ r;
+            });
       }
   ok-allowed f (detects {i} {j}) r (n, u, h) =
-      let d = controller-below L b f i (lt-ltb _ _ (n .0)) in
+      let first = lt-ltb _ _ (n .0) in
+      let d = controller-below L b f i first in
       record {
         sound = f;
-        free = (
-          lt-ltb _ _ (n .0),
-          (
-            lt-ltb _ _ (n .1),
-            (
-              eq-eqb _ _ (h .0),
-              (u, (ap not (h .1), (sym (same-has (view i) j d) ∙ h .2, tt))),
-            ),
-          ),
-        );
+        free = detect-holds L w
+            (record {
+              first = first;
+              second = lt-ltb _ _ (n .1);
+              detecting = eq-eqb _ _ (h .0);
+              up = u;
+              down = ap not (h .1);
+              trusts = sym (same-has (view i) j d) ∙ h .2;
+            });
       }

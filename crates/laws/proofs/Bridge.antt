@@ -7,13 +7,11 @@ use lib.Dec.{eqb, ltb}
 use borrow.Author.Tests.{eqb-true, eqb-false}
 use Rattle.sets.specs.Set.{has, with, without, withAll, allBelow}
 use Rattle.sets.proofs.Members.{has-with, has-without, has-with-all, has-all-below, has-none}
-use Rattle.group.specs.Place.{Field, Words, Record, Write, _≔_}
-use Rattle.group.specs.Place.{sender, held, delivered, acked, unsent, inFlight}
-use Rattle.group.specs.Place.{N, mode, count, up, view, message}
-use Rattle.group.specs.Writes.{fresh, sent, received}
-use Rattle.group.proofs.Places.{sameField}
-use Rattle.laws.proofs.Sets.{RecordSets, Sets, put, newRecord}
-use Rattle.laws.proofs.Sets.{afterSend, afterReceive, afterDeliver, afterLose}
+use Rattle.bank.specs.Place.{Field, Words, Record, Write, sender, held, delivered, acked, unsent, inFlight, N, mode}
+use Rattle.bank.specs.Place.{count, up, view, message}
+use Rattle.group.specs.Writes.{fresh, sent, received, lost, marked}
+use Rattle.bank.proofs.Places.{sameField}
+use Rattle.laws.proofs.Sets.{RecordSets, Sets, put, newRecord, afterSend, afterReceive, afterDeliver, afterLose}
 
 -- ---- the sets of words
 
@@ -126,8 +124,7 @@ sets-received n i from r =
       inFlight = λ a b. out-at (λ j. r (inFlight j)) i a from b d;
     }
 
-pub sets-delivered : (i : ℕ) (r : Record)
-    → recordSets (laterIn (delivered ≔ with (r delivered) i ∷ []) r) ≡ afterDeliver i (recordSets r)
+pub sets-delivered : (i : ℕ) (r : Record) → recordSets (laterIn (marked i r) r) ≡ afterDeliver i (recordSets r)
 unfolding recordSets
 sets-delivered i r =
     λ d. record {
@@ -139,8 +136,7 @@ sets-delivered i r =
       inFlight = λ a b. has (r (inFlight a)) b;
     }
 
-pub sets-lost : (from to : ℕ) (r : Record)
-    → recordSets (laterIn (inFlight to ≔ without (r (inFlight to)) from ∷ []) r) ≡ afterLose from to (recordSets r)
+pub sets-lost : (from to : ℕ) (r : Record) → recordSets (laterIn (lost from to r) r) ≡ afterLose from to (recordSets r)
 unfolding recordSets
 sets-lost from to r =
     λ d. record {

@@ -3,15 +3,15 @@ use mathlib.Core.Path.{_≡_, ap, subst, _∙_}
 use mathlib.Core.List.{List, map}
 use Prim.Native.Nat.{ℕ, _+_}
 use borrow.Author.Tests.{ltb-true}
-use Rattle.group.specs.Place.{Field, _≔_}
-use Rattle.group.specs.Place.{N, count, message}
-use Rattle.group.specs.Layout.{Layout, words, fields, inRecord, FieldIn, PlaceIn}
+use Rattle.bank.specs.Place.{Field, _≔_, N, count, message}
+use Rattle.bank.specs.Layout.{Layout, words, fields, inRecord, FieldIn, PlaceIn}
 use Rattle.group.specs.Step.{broadcast}
 use Rattle.group.specs.Writes.{fresh}
 use Rattle.group.specs.Promises.{Allowed, after}
 use Rattle.laws.specs.Above.{RecordRewritten}
-use Rattle.group.proofs.Reading.{later-append}
-use Rattle.group.proofs.Names.{word-after}
+use Rattle.bank.proofs.Reading.{later-append}
+use Rattle.group.proofs.Granted.{broadcast-granted}
+use Rattle.group.proofs.WritesIn.{word-after}
 use Rattle.laws.proofs.Whole.{record-word}
 
 module _ (L : Layout) (b : List ℕ) (who s v : ℕ) (a : Allowed L b (broadcast who s v)) where
@@ -20,7 +20,8 @@ module _ (L : Layout) (b : List ℕ) (who s v : ℕ) (a : Allowed L b (broadcast
   new-word f h =
       let c : ℕ = words L b count in
       let g : Field → ℕ = fresh (words L b N) who s v in
-      word-after L b (broadcast who s v) a (message c f) (ltb-true c (L .messages) (a .free .1 .1 .0), h)
+      let room = broadcast-granted L (words L b) s v (a .free) .room in
+      word-after L b (broadcast who s v) a (message c f) (ltb-true c (L .messages) room, h)
       ∙ later-append (inRecord c (map (λ f. f ≔ g f) (fields L))) _ (message c f) _
       ∙ record-word L c g f _ h
 

@@ -8,20 +8,20 @@ use native.Mathlib.Nat.{zero-add}
 use lib.Dec.{eqb}
 use lib.ListN.{length}
 use borrow.Author.Tests.{eqb-true, eqb-false}
-use Rattle.group.specs.Layout.{paper}
-use Rattle.group.specs.Opening.{answer, openOf}
-use Rattle.group.specs.Step.{Step, asked}
-use Rattle.group.specs.Promises.{Allowed, after, stepOf, refusalOf, StepPromise, OpenPromise}
-use Rattle.group.specs.Lists.{outcome, runOf}
-use Rattle.group.proofs.Kept.{refused-leaves, open-refused-leaves}
+use Rattle.bank.specs.Layout.{paper}
+use Rattle.bank.specs.Opening.{answer, openOf, OpenPromise}
+use Rattle.group.specs.Step.{Step, asked, Asked}
+use Rattle.group.specs.Promises.{Allowed, after, stepOf, refusalOf, StepPromise}
+use Rattle.lists.specs.Lists.{outcome, runOf}
+use Rattle.group.proofs.Kept.{refused-leaves}
+use Rattle.bank.proofs.Fitness.{open-refused-leaves}
 use Rattle.settler.specs.Settling.{ending, SettlePromise}
 use Rattle.step_records.specs.Records.{flat}
 use Rattle.laws.specs.Runs.{Run, done}
 use Rattle.laws.specs.Demand.{Reached}
 use Rattle.laws.specs.Settler.{Tells}
-use Rattle.laws.specs.Calls.{asksFor, asksFirst, ifAccepted, Promised}
-use Rattle.laws.specs.Calls.{Call, openRefused, step, run, runSteps, settle}
-use Rattle.laws.specs.Calls.{stepsOf, countOf, afterOpen, called, Called, EveryOpen, EveryCaller}
+use Rattle.laws.specs.Calls.{asksFor, asksFirst, ifAccepted, Promised, Call, openRefused, step, run, runSteps}
+use Rattle.laws.specs.Calls.{settle, stepsOf, countOf, afterOpen, called, Called, EveryOpen, EveryCaller}
 use Rattle.laws.proofs.Ends.{reached-by}
 use Rattle.laws.proofs.Onward.{plain-run}
 use Rattle.laws.proofs.Telling.{settler-tells}
@@ -41,22 +41,22 @@ unmoved {b} e = record { run = subst (Steps b []) (sym e) done; long = refl }
 
 -- ---- one call
 
-step-led : (b c : List ℕ) (kind x y z r : ℕ) → StepPromise b kind x y z r c
-    → Led b (ifAccepted r (asked kind x y z)) (cond (eqb r 0) 1 0) c
+step-led : (b c : List ℕ) (x : Asked) (r : ℕ) → StepPromise paper b x r c
+    → Led b (ifAccepted r (asked x)) (cond (eqb r 0) 1 0) c
 unfolding stepOf
-step-led b c kind x y z r p = go (eqb r 0) refl
+step-led b c x r p = go (eqb r 0) refl
   where
-    number : r ≡ refusalOf paper b kind x y z
+    number : r ≡ refusalOf paper b x
     number = ap (λ a. a .refusal) p
 
-    bank : c ≡ stepOf paper b kind x y z .bank
+    bank : c ≡ stepOf paper b x .bank
     bank = ap (λ a. a .bank) p
 
-    go : (t : Bool) → eqb r 0 ≡ t → Led b (cond t (asksFor (asked kind x y z)) []) (cond t 1 0) c
+    go : (t : Bool) → eqb r 0 ≡ t → Led b (cond t (asksFor (asked x)) []) (cond t 1 0) c
     go true e =
-        let (led, one) = stepped paper b kind x y z (sym number ∙ eqb-true r 0 e) in
-        record { run = subst (Steps b (asksFor (asked kind x y z))) (sym bank) led; long = one }
-    go false e = unmoved (bank ∙ refused-leaves paper b kind x y z (λ z. eqb-false r 0 e (number ∙ z)))
+        let (led, one) = stepped paper b x (sym number ∙ eqb-true r 0 e) in
+        record { run = subst (Steps b (asksFor (asked x))) (sym bank) led; long = one }
+    go false e = unmoved (bank ∙ refused-leaves paper b x (λ z. eqb-false r 0 e (number ∙ z)))
 
 list-led : (b c steps : List ℕ) (a r : ℕ) → outcome a r c ≡ runOf paper b steps → Led b (asksFirst a steps) a c
 list-led b c steps a r p =
@@ -70,14 +70,15 @@ list-led b c steps a r p =
     }
 
 module _ {n k : ℕ} {before : List Step} {b : List ℕ} (h : Reached paper n k before b) where
-  settle-tells : (d r t : ℕ) (q : Bool) (c : List ℕ) → SettlePromise b d r t q c → Tells paper b d (ending r t q c)
+  settle-tells : (d r t : ℕ) (q : Bool) (c : List ℕ) → SettlePromise paper b d r t q c
+      → Tells paper b d (ending r t q c)
   settle-tells d r t q c p = subst (Tells paper b d) (sym p) (settler-tells paper h d)
 
   call-led : (x : Call) (c : List ℕ) → Promised b x c → Led b (stepsOf b x) (countOf x) c
   call-led (openRefused m j r z) c p =
       unmoved
       (ap (λ a. a .bank) p ∙ open-refused-leaves paper b m j (λ e. z (ap (λ a. a .refusal) p ∙ e)))
-  call-led (step kind x y z r) c p = step-led b c kind x y z r p
+  call-led (step x r) c p = step-led b c x r p
   call-led (run steps a r) c p = list-led b c steps a _ p
   call-led (runSteps steps a r) c p = list-led b c (flat steps) a _ p
   call-led (settle d r t q) c p =
@@ -85,7 +86,7 @@ module _ {n k : ℕ} {before : List Step} {b : List ℕ} (h : Reached paper n k 
 
 -- ---- any calls
 
-open-reached : (b c : List ℕ) (n k : ℕ) → OpenPromise b n k 0 c → Reached paper n k [] c
+open-reached : (b c : List ℕ) (n k : ℕ) → OpenPromise paper b n k 0 c → Reached paper n k [] c
 open-reached b c n k o =
     let (sized, known, bank) = opening-done paper b n k (sym (ap (λ a. a .refusal) o)) in
     record {
@@ -110,7 +111,7 @@ every-caller n k before b h =
       every-answer =
           record {
             of-open = λ n k z. refl;
-            of-step = λ kind x y z. refl;
+            of-step = λ x. refl;
             of-run = λ list. refl;
             of-records = λ list. refl;
             of-settle = λ d. refl;

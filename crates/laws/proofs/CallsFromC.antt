@@ -7,11 +7,12 @@ use native.Mathlib.Omega.{arith}
 use lib.Dec.{eqb}
 use lib.ListN.{length}
 use borrow.Author.Tests.{eq-eqb, ne-eqb, eqb-true, eqb-false}
-use Rattle.group.specs.Layout.{paper, size}
-use Rattle.group.specs.Opening.{answer, openOf}
+use Rattle.bank.specs.Layout.{paper, size}
+use Rattle.bank.specs.Opening.{answer, openOf}
 use Rattle.group.specs.Step.{Step}
-use Rattle.group.proofs.Rules.{pass}
-use Rattle.group.proofs.Kept.{refused-leaves, open-refused-leaves}
+use Rattle.bank.proofs.Rules.{pass}
+use Rattle.group.proofs.Kept.{refused-leaves}
+use Rattle.bank.proofs.Fitness.{open-refused-leaves}
 use Rattle.settler.specs.Settling.{ending, settleOf}
 use Rattle.loargwen.specs.Bytes.{wordsOf, bytesOf}
 use Rattle.loargwen.specs.Face.{isBank, onBytes, flag, settledBytes, SettleBytes}
@@ -107,12 +108,12 @@ module _ {n k : ℕ} {before : List Step} (bytes : List ℕ) (w : Whole bytes)
         steps = refl;
         counted = refl;
       }
-  below (step kind x y z r) new p =
+  below (step x r) new p =
       let (whole, number, bank) =
-      crossed (step-left bytes kind x y z p) w whole-bank (refused-leaves paper (wordsOf bytes) kind x y z) in
+      crossed (step-left bytes x p) w whole-bank (refused-leaves paper (wordsOf bytes) x) in
       record {
         whole = whole;
-        call = Words.step kind x y z r;
+        call = Words.step x r;
         promised = λ i. answer (number i) (bank i);
         steps = refl;
         counted = refl;
@@ -159,7 +160,7 @@ every-c-caller n k before bytes h =
     record {
       whole = w;
       relies = relies;
-      every-answer = record { of-open = λ n k z. refl; of-step = λ kind x y z. refl; of-settle = λ d. refl };
+      every-answer = record { of-open = λ n k z. refl; of-step = λ x. refl; of-settle = λ d. refl };
       leads = λ x new p.
           (let y = below bytes w (relies .reached) x new p in
           subst (λ es. Run (Allowed paper) (after paper) (wordsOf bytes) es (wordsOf new)) (y .steps)

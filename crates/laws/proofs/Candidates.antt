@@ -2,15 +2,14 @@
 use mathlib.Core.Path.{_≡_, refl, sym, ap, subst}
 use mathlib.Core.Bool.{Bool, true, false}
 use mathlib.Core.Logic.{⊎-elim}
-use mathlib.Core.List.{List, [], _∷_, _++_, map}
-use mathlib.Core.List.{List·Memᴰ as In, List·Memᴰ·head as here, List·Memᴰ·tail as there}
-use mathlib.Core.List.{List·Memᴰ·not-nil as in-nothing, List·Memᴰ·cases-cons as in-cons}
-use mathlib.Core.List.{Memᴰ·append-left as in-left, Memᴰ·append-right as in-right}
+use mathlib.Core.List.{List, [], _∷_, _++_, map, List·Memᴰ as In, List·Memᴰ·head as here, List·Memᴰ·tail as there}
+use mathlib.Core.List.{List·Memᴰ·not-nil as in-nothing, List·Memᴰ·cases-cons as in-cons, Memᴰ·append-left as in-left}
+use mathlib.Core.List.{Memᴰ·append-right as in-right}
 use Prim.Native.Nat.{ℕ, zero, suc, _+_, _≤_, _<_}
 use native.Mathlib.Omega.{arith}
 use lib.Dec.{eqb}
 use borrow.Author.Tests.{eqb-true, eqb-false}
-use Rattle.group.specs.Layout.{upFrom}
+use Rattle.bank.specs.Layout.{upFrom}
 use Rattle.group.specs.Step.{Step, send, receive, deliver, detect}
 use Rattle.settler.specs.Candidates.{below, each, pairs, ofMessage, candidates}
 use Rattle.laws.specs.Runs.{settles}

@@ -2,20 +2,19 @@
 use mathlib.Core.Path.{_≡_, refl, ap, _∙_}
 use mathlib.Core.Bool.{Bool, true, false, cond}
 use mathlib.Core.Logic.{⊎-elim}
-use mathlib.Core.List.{List, [], _∷_}
-use mathlib.Core.List.{List·Memᴰ as In, List·Memᴰ·head as here, List·Memᴰ·tail as there}
+use mathlib.Core.List.{List, [], _∷_, List·Memᴰ as In, List·Memᴰ·head as here, List·Memᴰ·tail as there}
 use mathlib.Core.List.{List·Memᴰ·not-nil as in-nothing, List·Memᴰ·cases-cons as in-cons}
 use mathlib.Core.Option.{Option, none, some}
 use Prim.Native.Nat.{ℕ, _≤_}
 use native.Mathlib.Omega.{arith}
 use borrow.Author.Tests.{eq-eqb, eqb-true}
-use Rattle.group.specs.Place.{N, count}
-use Rattle.group.specs.Layout.{Layout, words}
-use Rattle.group.specs.Fit.{Fit}
+use Rattle.bank.specs.Place.{N, count}
+use Rattle.bank.specs.Layout.{Layout, words}
+use Rattle.bank.specs.Fit.{Fit}
 use Rattle.group.specs.Step.{Step}
 use Rattle.group.specs.Refusals.{refusal}
 use Rattle.group.specs.Promises.{Allowed}
-use Rattle.group.proofs.Rules.{free-step, allowed-free}
+use Rattle.group.proofs.StepRules.{free-step, allowed-free}
 use Rattle.settler.specs.Candidates.{candidates, firstOf, free, next}
 use Rattle.laws.specs.Runs.{Ended, Settling}
 use Rattle.laws.specs.Settler.{turn, InTurn}

@@ -1,7 +1,7 @@
 -- Demand 3, whole: no hypothesis but that the group was opened and the steps were accepted.
 use mathlib.Core.List.{List}
 use Prim.Native.Nat.{ℕ}
-use Rattle.group.specs.Layout.{Layout}
+use Rattle.bank.specs.Layout.{Layout}
 use Rattle.group.specs.Step.{Step}
 use Rattle.group.specs.Promises.{stepOf}
 use Rattle.laws.specs.Demand.{Reached}

@@ -4,7 +4,7 @@ use mathlib.Core.Bool.{true, false}
 use Prim.Native.Nat.{ℕ, _*_, _<_}
 use native.Mathlib.Omega.{arith}
 use Rattle.sets.specs.Set.{howMany}
-use Rattle.group.specs.Fit.{allAck, majority}
+use Rattle.bank.specs.Fit.{allAck, majority}
 use Rattle.group.specs.Step.{send, receive, deliver, detect}
 use Rattle.laws.specs.Runs.{Ended, Settling}
 use Rattle.laws.proofs.Sets.{Sets, enoughOf, Ok, Quorate}

@@ -11,13 +11,13 @@ use lib.ListN.{length}
 use borrow.Author.Tests.{ltb-true, ltb-false}
 use Rattle.sets.specs.Set.{has, howMany}
 use Rattle.sets.proofs.Counts.{howMany-same}
-use Rattle.group.specs.Place.{Place, N, mode, count, up, view, logLength, log, message}
-use Rattle.group.specs.Place.{sender, stamp, value, held, delivered, acked, unsent, inFlight}
-use Rattle.group.specs.Layout.{Layout, words, PlaceIn}
-use Rattle.group.specs.Fit.{Fit}
+use Rattle.bank.specs.Place.{Place, N, mode, count, up, view, logLength, log, message}
+use Rattle.bank.specs.Place.{sender, stamp, value, held, delivered, acked, unsent, inFlight}
+use Rattle.bank.specs.Layout.{Layout, words, PlaceIn}
+use Rattle.bank.specs.Fit.{Fit}
 use Rattle.group.specs.Step.{Step, broadcast, send, receive, deliver, crash, detect, lose}
-use Rattle.group.specs.Refusals.{hasDelivered}
-use Rattle.group.specs.Logs.{logOf}
+use Rattle.group.specs.State.{hasDelivered}
+use Rattle.lists.specs.Logs.{logOf}
 use Rattle.group.specs.Promises.{Allowed, after}
 use Rattle.laws.specs.Runs.{Run, Ended, Settling}
 use Rattle.laws.specs.Logs.{occurs, LogsRight}

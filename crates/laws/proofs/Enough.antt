@@ -1,46 +1,42 @@
--- The delivery test: all that the rest needs to know of the modes. A new mode changes the test and this file.
-use mathlib.Core.Path.{_≡_, refl}
-use mathlib.Core.Bool.{Bool, true, false, not, _||_}
+-- The delivery test of sets: the group's four laws of it (its proofs/DeliveryTest), and what the rest rests on.
+use mathlib.Core.Path.{_≡_, sym, _∙_}
+use mathlib.Core.Bool.{Bool, true}
 use mathlib.Core.Logic.{inl, inr}
 use Prim.Native.Nat.{ℕ, _*_, _<_}
-use native.Mathlib.Decide.{ℕ-discrete}
 use native.Mathlib.Omega.{arith}
-use borrow.Author.Tests.{eq-eqb, ne-eqb, ltb-true, lt-ltb}
-use Rattle.sets.specs.Set.{howMany}
-use Rattle.sets.proofs.Counts.{every-at, every-is, howMany-mono, Common, common}
-use Rattle.group.specs.Fit.{allAck}
+use Rattle.sets.specs.Set.{has, howMany}
+use Rattle.sets.proofs.Counts.{Common, common}
+use Rattle.bank.specs.Fit.{allAck}
+use Rattle.group.specs.Delivery.{enough}
+use Rattle.group.proofs.DeliveryTest.{by-mode, passes-all, all-pass, passes-most, most-pass, passes-on, enough-below}
+use Rattle.laws.proofs.Gathered.{gathered, gathered-count}
 use Rattle.laws.proofs.Sets.{Sets, enoughOf, Quorate}
 
--- a fact that turns on whether the mode is all-ack
-pub by-mode : (k : ℕ) (P : Type 0) → (k ≡ allAck → P) → ((k ≡ allAck → ⊥) → P) → P
-by-mode k P a m = go (ℕ-discrete k allAck)
-  where
-    go : Dec (k ≡ allAck) → P
-    go (yes e) = a e
-    go (no d) = m d
-
-pub implies : (t r : Bool) → (t ≡ true → r ≡ true) → (not t || r) ≡ true
-implies true r h = h refl
-implies false r h = refl
+-- the test of two words is the test of the sets that they are
+pub one-test : (k n x y : ℕ) → enoughOf k n (has x) (has y) ≡ enough k n x y
+unfolding enoughOf
+one-test k n x y = enough-below k n _ _ _ _ (gathered (has x) n) (gathered (has y) n)
 
 -- ---- what passes: all-ack, where everybody trusted is received from; majority, where more than half are
 
 module _ (k n : ℕ) (t r : ℕ → Bool) where
   pub all-trusted : k ≡ allAck → enoughOf k n t r ≡ true → (i : ℕ) → i < n → t i ≡ true → r i ≡ true
   unfolding enoughOf
-  all-trusted e h i l u = rw u at (every-at _ n (rw (eq-eqb k allAck e) at h) i l)
+  all-trusted e h i l u =
+      sym (gathered r n i l) ∙ passes-all k n _ _ e h i l (gathered t n i l ∙ u)
 
   pub all-enough : k ≡ allAck → ((i : ℕ) → i < n → t i ≡ true → r i ≡ true) → enoughOf k n t r ≡ true
   unfolding enoughOf
-  all-enough e h = rw (eq-eqb k allAck e) (every-is _ n (λ i l. implies (t i) (r i) (h i l)))
+  all-enough e h =
+      all-pass k n _ _ e (λ i l u. gathered r n i l ∙ h i l (sym (gathered t n i l) ∙ u))
 
   pub more-than-half : (k ≡ allAck → ⊥) → enoughOf k n t r ≡ true → n < 2 * howMany r n
   unfolding enoughOf
-  more-than-half d h = omega (arith, ltb-true n _ (rw (ne-eqb k allAck d) at h))
+  more-than-half d h = omega (arith, passes-most k n _ _ d h, gathered-count r n)
 
   pub most-enough : (k ≡ allAck → ⊥) → n < 2 * howMany r n → enoughOf k n t r ≡ true
   unfolding enoughOf
-  most-enough d h = rw (ne-eqb k allAck d) (lt-ltb n _ (omega arith))
+  most-enough d h = most-pass k n _ _ d (omega (arith, gathered-count r n))
 
 -- ---- what follows
 
@@ -50,10 +46,12 @@ module _ (k n : ℕ) where
       → (k ≡ allAck → (i : ℕ) → i < n → t′ i ≡ true → t i ≡ true)
       → ((i : ℕ) → i < n → r i ≡ true → r′ i ≡ true)
       → enoughOf k n t r ≡ true → enoughOf k n t′ r′ ≡ true
+  unfolding enoughOf
   enough-grows t t′ r r′ ht hr h =
-      by-mode k _
-      (λ e. all-enough k n t′ r′ e (λ i l u. hr i l (all-trusted k n t r e h i l (ht e i l u))))
-      (λ d. most-enough k n t′ r′ d (omega (arith, more-than-half k n t r d h, howMany-mono r r′ n hr)))
+      passes-on k n _ _ _ _
+      (λ e i l u. gathered t n i l ∙ ht e i l (sym (gathered t′ n i l) ∙ u))
+      (λ i l u. gathered r′ n i l ∙ hr i l (sym (gathered r n i l) ∙ u))
+      h
 
   -- two sets that pass have a member in common, if anybody is trusted
   pub enough-meets : (t a b : ℕ → Bool) (q : ℕ) → q < n → t q ≡ true

@@ -11,14 +11,14 @@ use lib.Seq.{drop-cons}
 use borrow.Author.Tests.{lt-ltb, le-ltb, leb-true}
 use Rattle.sets.specs.Set.{howMany}
 use Rattle.sets.proofs.Counts.{every-at}
-use Rattle.group.specs.Place.{N, count, logLength, log}
-use Rattle.group.specs.Layout.{Layout, start, bankWidths, address, words, upFrom}
-use Rattle.group.specs.Fit.{Fit, logFits}
-use Rattle.group.specs.Logs.{logOf}
-use Rattle.group.proofs.Places.{inside}
-use Rattle.group.proofs.Fitness.{facts-fit}
-use Rattle.group.proofs.Rules.{pass, stop}
-use Rattle.group.proofs.Asking.{log-there, no-length, whole-length}
+use Rattle.bank.specs.Place.{N, count, logLength, log}
+use Rattle.bank.specs.Layout.{Layout, start, bankWidths, address, words, upFrom}
+use Rattle.bank.specs.Fit.{Fit, logFits}
+use Rattle.lists.specs.Logs.{logOf}
+use Rattle.bank.proofs.Places.{inside}
+use Rattle.bank.proofs.Fitness.{facts-fit}
+use Rattle.bank.proofs.Rules.{pass, stop}
+use Rattle.lists.proofs.Asking.{log-there, no-length, whole-length}
 use Rattle.laws.specs.Logs.{occurs}
 
 -- n words from a on, of a list that has them

@@ -9,13 +9,13 @@ use native.Mathlib.Omega.{arith}
 use lib.ListN.{length, getD, length-append, List·getD-append}
 use lib.Seq.{getD-at}
 use borrow.Author.Tests.{ne-eqb}
-use Rattle.group.specs.Place.{Words, count, message, sender, stamp, value}
-use Rattle.group.specs.Layout.{Layout, words}
-use Rattle.group.specs.Fit.{isSize, isMode}
-use Rattle.group.specs.Opening.{opened}
+use Rattle.bank.specs.Place.{Words, count, message, sender, stamp, value}
+use Rattle.bank.specs.Layout.{Layout, words}
+use Rattle.bank.specs.Fit.{isSize, isMode}
+use Rattle.bank.specs.Opening.{opened}
 use Rattle.group.specs.Step.{Step, broadcast, send, receive, deliver, crash, detect, lose}
 use Rattle.group.specs.Promises.{Allowed, after}
-use Rattle.group.proofs.Places.{key}
+use Rattle.bank.proofs.Places.{key}
 use Rattle.laws.proofs.Broadcast.{new-word, one-more}
 use Rattle.laws.specs.Runs.{Run}
 use Rattle.laws.specs.History.{saying, says, said, recorded, HistoryRight}

@@ -9,13 +9,13 @@ use lib.ListN.{length, getD}
 use lib.Seq.{ext-getD}
 use Rattle.sets.specs.Set.{has}
 use Rattle.sets.proofs.Members.{same-members}
-use Rattle.group.specs.Place.{Place, _≔_, N}
-use Rattle.group.specs.Layout.{Layout, size, address, words, puts, PlaceIn}
+use Rattle.bank.specs.Place.{Place, _≔_, N}
+use Rattle.bank.specs.Layout.{Layout, size, address, words, puts, PlaceIn}
 use Rattle.laws.specs.Above.{isSet, SameBelow, JustAbove}
-use Rattle.group.proofs.Places.{samePlace}
-use Rattle.group.proofs.Reading.{length-puts, words-after}
-use Rattle.group.proofs.Names.{one-name}
-use Rattle.group.proofs.EveryWord.{places-are-words}
+use Rattle.bank.proofs.Places.{samePlace}
+use Rattle.bank.proofs.Reading.{length-puts, words-after}
+use Rattle.bank.proofs.Names.{one-name}
+use Rattle.bank.proofs.EveryWord.{places-are-words}
 
 module _ (L : Layout) where
   -- ---- one set word differs

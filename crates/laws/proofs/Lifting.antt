@@ -2,7 +2,7 @@
 use mathlib.Core.Path.{subst}
 use mathlib.Core.List.{List}
 use Prim.Native.Nat.{ℕ}
-use Rattle.group.specs.Layout.{Layout}
+use Rattle.bank.specs.Layout.{Layout}
 use Rattle.group.specs.Step.{Step}
 use Rattle.group.specs.Promises.{Allowed, after}
 use Rattle.laws.specs.Runs.{Run, done, next, Settling}

@@ -7,14 +7,14 @@ use native.Mathlib.Omega.{arith}
 use lib.Dec.{eqb}
 use lib.ListN.{length, length-append}
 use borrow.Author.Tests.{eq-eqb, eqb-true}
-use Rattle.group.specs.Layout.{Layout, size}
-use Rattle.group.specs.Fit.{fit, isSize, isMode}
-use Rattle.group.specs.Opening.{opened, openOf}
-use Rattle.group.specs.Step.{asked}
-use Rattle.group.specs.Refusals.{_else_}
+use Rattle.bank.specs.Layout.{Layout, size}
+use Rattle.bank.specs.Fit.{fit, isSize, isMode}
+use Rattle.bank.specs.Opening.{opened, openOf}
+use Rattle.group.specs.Step.{asked, Asked, ask}
+use Rattle.bank.specs.Rules.{_else_}
 use Rattle.group.specs.Promises.{Allowed, after, refusalOf, stepOf}
-use Rattle.group.specs.Lists.{Outcome, outcome, runFrom, runOf}
-use Rattle.group.proofs.Rules.{pass, all-hold}
+use Rattle.lists.specs.Lists.{Outcome, outcome, runFrom, runOf}
+use Rattle.bank.proofs.Rules.{pass, all-hold}
 use Rattle.group.proofs.Demand2.{demand-2}
 use Rattle.laws.specs.Runs.{Run, done, next}
 use Rattle.laws.specs.Calls.{asksFor, asksFirst}
@@ -24,14 +24,14 @@ module _ (L : Layout) where
   -- ---- a single step
 
   -- the step asked for, by an answer of 0: it is one, it was allowed, and the bank is the one after it
-  pub stepped : (b : List ℕ) (kind x y z : ℕ) → refusalOf L b kind x y z ≡ 0
-      → Run (Allowed L) (after L) b (asksFor (asked kind x y z)) (stepOf L b kind x y z .bank)
-      × (length (asksFor (asked kind x y z)) ≡ 1)
+  pub stepped : (b : List ℕ) (x : Asked) → refusalOf L b x ≡ 0
+      → Run (Allowed L) (after L) b (asksFor (asked x)) (stepOf L b x .bank)
+      × (length (asksFor (asked x)) ≡ 1)
   unfolding stepOf
-  stepped b kind x y z e =
-      let (s, q, a, d) = demand-2 L b kind x y z .done-allowed e in
-      let bank : after L b s ≡ stepOf L b kind x y z .bank = sym (ap (λ o. o .bank) d) in (
-        subst (λ o. Run (Allowed L) (after L) b (asksFor o) (stepOf L b kind x y z .bank)) (sym q)
+  stepped b x e =
+      let (s, q, a, d) = demand-2 L b x .done-allowed e in
+      let bank : after L b s ≡ stepOf L b x .bank = sym (ap (λ o. o .bank) d) in (
+        subst (λ o. Run (Allowed L) (after L) b (asksFor o) (stepOf L b x .bank)) (sym q)
             (subst (Run (Allowed L) (after L) b (s ∷ [])) bank (next a done)),
         ap (λ o. length (asksFor o)) q,
       )
@@ -55,24 +55,24 @@ module _ (L : Layout) where
   listed (kind ∷ x ∷ []) n b = stopped b (kind ∷ x ∷ []) n 0
   listed (kind ∷ x ∷ y ∷ []) n b = stopped b (kind ∷ x ∷ y ∷ []) n 0
   listed (kind ∷ x ∷ y ∷ z ∷ rest) n b =
-      go (eqb (refusalOf L b kind x y z) 0) refl (listed rest (n + 1) (stepOf L b kind x y z .bank))
+      go (eqb (refusalOf L b (ask kind x y z)) 0) refl (listed rest (n + 1) (stepOf L b (ask kind x y z) .bank))
     where
       more : Outcome
-      more = runFrom L (n + 1) (stepOf L b kind x y z .bank) rest
+      more = runFrom L (n + 1) (stepOf L b (ask kind x y z) .bank) rest
 
-      go : (t : Bool) → eqb (refusalOf L b kind x y z) 0 ≡ t
-          → Leads (stepOf L b kind x y z .bank) rest (n + 1) more
-          → Leads b (kind ∷ x ∷ y ∷ z ∷ rest) n (cond t more (outcome n (refusalOf L b kind x y z) b))
+      go : (t : Bool) → eqb (refusalOf L b (ask kind x y z)) 0 ≡ t
+          → Leads (stepOf L b (ask kind x y z) .bank) rest (n + 1) more
+          → Leads b (kind ∷ x ∷ y ∷ z ∷ rest) n (cond t more (outcome n (refusalOf L b (ask kind x y z)) b))
       go true e h =
-          let (first, one) = stepped b kind x y z (eqb-true _ 0 e) in
+          let (first, one) = stepped b (ask kind x y z) (eqb-true _ 0 e) in
           record {
             more = suc (h .more);
             counted = omega (arith, h .counted);
             run = go-on first (h .run);
-            long =
-                length-append (asksFor (asked kind x y z)) (asksFirst (h .more) rest) ∙ omega (arith, one, h .long);
+            long = length-append (asksFor (asked (ask kind x y z))) (asksFirst (h .more) rest)
+                ∙ omega (arith, one, h .long);
           }
-      go false e h = stopped b (kind ∷ x ∷ y ∷ z ∷ rest) n (refusalOf L b kind x y z)
+      go false e h = stopped b (kind ∷ x ∷ y ∷ z ∷ rest) n (refusalOf L b (ask kind x y z))
 
   pub run-leads : (b steps : List ℕ) → Leads b steps 0 (runOf L b steps)
   unfolding runOf
@@ -90,6 +90,6 @@ module _ (L : Layout) where
       → (isSize L n ≡ true) × (isMode k ≡ true) × (openOf L b n k .bank ≡ opened L n k)
   unfolding openOf
   opening-done b n k e =
-      let h =
+      let (_, (fits, (known, _))) =
       all-hold (eqb (length b) (size L) else 1 ∷ isSize L n else 11 ∷ isMode k else 12 ∷ []) (tt, (tt, (tt, tt))) e in
-      (h .1 .0, h .1 .1 .0, pass _ (eq-eqb _ _ e) refl)
+      (fits, known, pass _ (eq-eqb _ _ e) refl)

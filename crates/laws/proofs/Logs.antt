@@ -9,16 +9,17 @@ use borrow.Author.Tests.{eq-eqb, ne-eqb, eqb-true, eqb-false, lt-ltb, le-ltb, lt
 use Rattle.sets.specs.Set.{has, with, howMany}
 use Rattle.sets.proofs.Members.{has-none, has-with}
 use Rattle.sets.proofs.Counts.{howMany-gap}
-use Rattle.group.specs.Place.{Words, N, count, logLength, log, message, delivered}
-use Rattle.group.specs.Layout.{Layout, words}
-use Rattle.group.specs.Fit.{isSize, isMode}
-use Rattle.group.specs.Opening.{opened}
+use Rattle.bank.specs.Place.{Words, N, count, logLength, log, message, delivered}
+use Rattle.bank.specs.Layout.{Layout, words}
+use Rattle.bank.specs.Fit.{isSize, isMode}
+use Rattle.bank.specs.Opening.{opened}
 use Rattle.group.specs.Step.{Step, broadcast, send, receive, deliver, crash, detect, lose}
-use Rattle.group.specs.Refusals.{isMessage, hasDelivered}
+use Rattle.group.specs.State.{isMessage, hasDelivered}
 use Rattle.group.specs.Promises.{Allowed, after}
-use Rattle.group.proofs.Places.{Key, key}
-use Rattle.group.proofs.Kept.{fit-opened}
-use Rattle.group.proofs.Names.{word-after}
+use Rattle.bank.proofs.Places.{Key, key}
+use Rattle.bank.proofs.Fitness.{fit-opened}
+use Rattle.group.proofs.Granted.{Delivers, deliver-granted}
+use Rattle.group.proofs.WritesIn.{word-after}
 use Rattle.laws.proofs.Broadcast.{new-word, one-more}
 use Rattle.laws.specs.Runs.{Run}
 use Rattle.laws.specs.Logs.{LogsRight}
@@ -103,11 +104,14 @@ module _ (L : Layout) (b : List ℕ) (who s v : ℕ) (a : Allowed L b (broadcast
 
 -- a delivery adds its message to the log of its controller
 module _ (L : Layout) (b : List ℕ) (i m : ℕ) (a : Allowed L b (deliver i m)) where
+  granted : Delivers (words L b) i m
+  granted = deliver-granted L (words L b) (a .free)
+
   here : i < words L b N
-  here = ltb-true i (words L b N) (a .free .0)
+  here = ltb-true i (words L b N) (granted .due .there)
 
   there : m < words L b count
-  there = ltb-true m (words L b count) (a .free .1 .0)
+  there = ltb-true m (words L b count) (granted .due .given)
 
   told-deliver : (j x : ℕ) → told (new L b (deliver i m)) j x ≡ (told (words L b) j x || (eqb m x && eqb i j))
   told-deliver j x =
@@ -138,12 +142,11 @@ module _ (L : Layout) (b : List ℕ) (i m : ℕ) (a : Allowed L b (deliver i m))
       let n : ℕ = words L b (logLength i) in
       let self : eqb i i ≡ true = eq-eqb i i refl in
       let at : i < L .controllers = in-layout L b (deliver i m) a i here in
-      let end : n < L .messages = omega (arith, ltb-true n (w count) (a .free .1 .1 .1 .1 .1 .1 .0), a .sound .given) in
+      let end : n < L .messages = omega (arith, ltb-true n (w count) (granted .room), a .sound .given) in
       lists-more h
       (λ k r. word-after L b (deliver i m) a (log i k) (at, omega arith) ∙ rw (ne-eqb n k (λ q. omega arith)))
       m (omega (arith, there, a .sound .given))
-      (ap (λ t. isMessage w m && t) (not-true (hasDelivered w i m) (a .free .1 .1 .1 .1 .1 .0))
-      ∙ and-false (isMessage w m))
+      (ap (λ t. isMessage w m && t) (not-true (hasDelivered w i m) (granted .due .new)) ∙ and-false (isMessage w m))
       (word-after L b (deliver i m) a (logLength i) at ∙ rw self)
       (word-after L b (deliver i m) a (log i n) (at, end) ∙ rw (eq-eqb n n refl, self))
       (λ x. told-deliver i x ∙ rw (self, and-true))

@@ -9,19 +9,20 @@ use lib.Dec.{eqb}
 use borrow.Author.Tests.{eq-eqb, ne-eqb, ltb-true, le-ltb}
 use Rattle.sets.specs.Set.{has, with, allBelow}
 use Rattle.sets.proofs.Members.{has-none, has-with, has-all-below}
-use Rattle.group.specs.Place.{Field, Place}
-use Rattle.group.specs.Place.{sender, stamp, value, held, delivered, acked, unsent, inFlight}
-use Rattle.group.specs.Place.{N, mode, count, up, view, logLength, log, message}
-use Rattle.group.specs.Layout.{Layout, words, PlaceIn}
-use Rattle.group.specs.Fit.{isSize}
-use Rattle.group.specs.Opening.{views, opening, opened, openOf}
+use Rattle.bank.specs.Place.{Field, Place, sender, stamp, value, held, delivered, acked, unsent, inFlight, N, mode}
+use Rattle.bank.specs.Place.{count, up, view, logLength, log, message}
+use Rattle.bank.specs.Layout.{Layout, words, PlaceIn}
+use Rattle.bank.specs.Fit.{isSize}
+use Rattle.bank.specs.Opening.{views, opening, opened, openOf}
 use Rattle.group.specs.Step.{Step, broadcast, send, receive, deliver, crash, detect, lose}
 use Rattle.group.specs.Writes.{fresh}
 use Rattle.group.specs.Promises.{Allowed, after}
+use Rattle.group.proofs.Granted.{broadcast-granted}
 use Rattle.laws.specs.Above.{isSet, isSetField, Rewrites, BankRewritten, NoneAbove, NeverAbove}
-use Rattle.group.proofs.Places.{Key}
-use Rattle.group.proofs.Rules.{pass}
-use Rattle.group.proofs.Names.{views-aside, later-aside, word-opened}
+use Rattle.bank.proofs.Places.{Key}
+use Rattle.bank.proofs.Rules.{pass}
+use Rattle.bank.proofs.Names.{views-aside, later-aside}
+use Rattle.bank.proofs.InLayout.{word-opened}
 use Rattle.laws.proofs.Untouched.{untouched}
 use Rattle.laws.proofs.Above.{Pairs, end, pair, later-pairs, above-unchanged}
 use Rattle.laws.proofs.Broadcast.{new-word}
@@ -117,8 +118,9 @@ module _ (L : Layout) where
       → PlaceIn L (message (words L b count) f) → isSetField f ≡ true → (j : ℕ) → words L b N ≤ j
       → has (words L (after L b (broadcast who t v)) (message (words L b count) f)) j ≡ false
   new-none b who t v f a h q j l =
+      let there = broadcast-granted L (words L b) t v (a .free) .there in
       ap (λ x. has x j) (new-word L b who t v a f (h .1))
-      ∙ fresh-lacks (words L b N) j l who t v (ltb-true _ _ (a .free .0)) f q
+      ∙ fresh-lacks (words L b N) j l who t v (ltb-true _ _ there) f q
 
   step-none : (b : List ℕ) (s : Step) → Allowed L b s → NoneAbove L b → NoneAbove L (after L b s)
   step-none b s a none p h q j l =

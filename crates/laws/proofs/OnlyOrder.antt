@@ -2,14 +2,14 @@
 -- outside the logs, past a log's end, of a controller that is not there, or a used entry.
 use mathlib.Core.Path.{_≡_, refl, sym, ap, subst, _∙_}
 use mathlib.Core.List.{List}
-use Prim.Native.Nat.{ℕ, _≤_, _<_}
+use Prim.Native.Nat.{ℕ, _<_}
 use native.Mathlib.Omega.{arith}
 use native.Mathlib.Decide.{decLt}
-use lib.ListN.{length, getD}
+use lib.ListN.{getD}
 use lib.Seq.{ext-getD}
-use Rattle.group.specs.Place.{Place, N, mode, count, up, view, logLength, log, message}
-use Rattle.group.specs.Layout.{Layout, words, PlaceIn}
-use Rattle.group.proofs.EveryWord.{places-are-words}
+use Rattle.bank.specs.Place.{Place, N, mode, count, up, view, logLength, log, message}
+use Rattle.bank.specs.Layout.{Layout, words, PlaceIn}
+use Rattle.bank.proofs.EveryWord.{places-are-words}
 use Rattle.laws.specs.Demand.{Alike, OnlyOrder}
 
 -- how many entries of logs a place is

@@ -9,16 +9,15 @@ use lib.ListN.{replicate, length-replicate, getD-replicate}
 use borrow.Author.Tests.{eqb-true, eqb-false, lt-ltb, le-ltb}
 use Rattle.sets.specs.Set.{has, allBelow}
 use Rattle.sets.proofs.Members.{has-all-below, has-none}
-use Rattle.group.specs.Place.{Place, N, mode, count, up, view, message}
-use Rattle.group.specs.Place.{sender, held, delivered, acked, unsent, inFlight}
-use Rattle.group.specs.Layout.{Layout, size, address, words}
-use Rattle.group.specs.Fit.{isSize}
-use Rattle.group.specs.Opening.{views, opening, opened}
-use Rattle.group.proofs.Places.{Key, key, inside}
-use Rattle.group.proofs.Reading.{later, words-after}
-use Rattle.group.proofs.Views.{size-range}
-use Rattle.group.proofs.WritesIn.{opening-in}
-use Rattle.group.proofs.Names.{views-aside, later-aside}
+use Rattle.bank.specs.Place.{Place, N, mode, count, up, view, message, sender, held, delivered, acked, unsent, inFlight}
+use Rattle.bank.specs.Layout.{Layout, size, address, words}
+use Rattle.bank.specs.Fit.{isSize}
+use Rattle.bank.specs.Opening.{views, opening, opened}
+use Rattle.bank.proofs.Places.{Key, key, inside}
+use Rattle.bank.proofs.Reading.{later, words-after}
+use Rattle.bank.proofs.Views.{size-range}
+use Rattle.bank.proofs.InLayout.{opening-in}
+use Rattle.bank.proofs.Names.{views-aside, later-aside}
 use Rattle.laws.proofs.Sets.{openSets}
 use Rattle.laws.proofs.Visible.{seen-same, seen-later, seen-nothing}
 use Rattle.laws.proofs.Bridge.{recordSets, sets}

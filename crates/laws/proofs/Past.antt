@@ -8,14 +8,15 @@ use native.Mathlib.Nat.{lt-irrefl}
 use native.Mathlib.Omega.{arith}
 use lib.Dec.{eqb, ltb}
 use borrow.Author.Tests.{eq-eqb, eqb-true, ltb-true, ltb-false}
-use Rattle.group.specs.Place.{Place, Words, N, mode, count, up, logLength, log, message, stamp, value}
-use Rattle.group.specs.Layout.{Layout, words, PlaceIn}
+use Rattle.bank.specs.Place.{Place, Words, N, mode, count, up, logLength, log, message, stamp, value}
+use Rattle.bank.specs.Layout.{Layout, words, PlaceIn}
 use Rattle.group.specs.Step.{Step, broadcast, send, receive, deliver, crash, detect, lose}
 use Rattle.group.specs.Writes.{writes}
 use Rattle.group.specs.Promises.{Allowed, after}
-use Rattle.group.proofs.Places.{key}
-use Rattle.group.proofs.Reading.{later}
-use Rattle.group.proofs.Names.{word-after}
+use Rattle.bank.proofs.Places.{key}
+use Rattle.bank.proofs.Reading.{later}
+use Rattle.group.proofs.Granted.{deliver-granted}
+use Rattle.group.proofs.WritesIn.{word-after}
 use Rattle.laws.specs.Runs.{Run, done, next, Settling}
 use Rattle.laws.proofs.Onward.{SettlingKind, sends, receives, delivers, detects, kind-of}
 use Rattle.laws.proofs.Untouched.{keeps, untouched}
@@ -125,11 +126,9 @@ module _ (L : Layout) where
             word-after L b (deliver j m) a (log i k) (l, h)
             ∙ unless-both (words L b (logLength j)) k j i m _
             (λ e. lt-irrefl k (omega (arith, g, e .0, ap (λ i. words L b (logLength i)) (e .1))));
-        absent = λ h. here ∙ unless j i _ _ (λ e. lt-irrefl j (omega (
-          arith,
-          ltb-true j (words L b N)
-              (a .free .0),
-        )));
+        absent = λ h. here
+            ∙ unless j i _ _
+            (λ e. lt-irrefl j (omega (arith, ltb-true j _ (deliver-granted L (words L b) (a .free) .due .there))));
         past = λ k h g.
             word-after L b (deliver j m) a (log i k) (l, h)
             ∙ unless-both (words L b (logLength j)) k j i m _

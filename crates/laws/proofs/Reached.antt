@@ -7,18 +7,19 @@ use lib.Dec.{eqb}
 use lib.ListN.{replicate, length-replicate, getD-replicate}
 use lib.Seq.{append-snoc}
 use Rattle.sets.specs.Set.{allBelow}
-use Rattle.group.specs.Place.{Place, Write, _≔_, N, mode, up}
-use Rattle.group.specs.Layout.{Layout, size, address, words, PlaceIn}
-use Rattle.group.specs.Fit.{Fit, isSize, isMode}
-use Rattle.group.specs.Opening.{views, opening, opened}
+use Rattle.bank.specs.Place.{Place, Write, _≔_, N, mode, up}
+use Rattle.bank.specs.Layout.{Layout, size, address, words, PlaceIn}
+use Rattle.bank.specs.Fit.{Fit, isSize, isMode}
+use Rattle.bank.specs.Opening.{views, opening, opened}
 use Rattle.group.specs.Step.{Step}
 use Rattle.group.specs.Promises.{Allowed, after}
-use Rattle.group.proofs.Places.{Key, key, inside}
-use Rattle.group.proofs.Reading.{later, words-after}
-use Rattle.group.proofs.Views.{size-range}
-use Rattle.group.proofs.WritesIn.{opening-in}
-use Rattle.group.proofs.Kept.{fit-opened, fit-after}
-use Rattle.group.proofs.Names.{views-aside, later-aside}
+use Rattle.bank.proofs.Places.{Key, key, inside}
+use Rattle.bank.proofs.Reading.{later, words-after}
+use Rattle.bank.proofs.Views.{size-range}
+use Rattle.bank.proofs.InLayout.{opening-in}
+use Rattle.bank.proofs.Fitness.{fit-opened}
+use Rattle.group.proofs.Kept.{fit-after}
+use Rattle.bank.proofs.Names.{views-aside, later-aside}
 use Rattle.laws.specs.Above.{NoneAbove}
 use Rattle.laws.specs.Runs.{Run, done, next}
 use Rattle.laws.proofs.NeverAbove.{never-above}

@@ -2,11 +2,12 @@
 -- Only a means of proof: Steps.antt and Allowing.antt show that the group's own rules, read on sets, are these.
 use Prim.Native.Nat.{ℕ, _+_, _*_, _<_}
 use mathlib.Core.Path.{_≡_}
-use mathlib.Core.Bool.{Bool, true, false, cond, not, _&&_, _||_}
+use mathlib.Core.Bool.{Bool, true, false, cond, not, _&&_}
 use mathlib.Core.Logic.{_⊎_}
 use lib.Dec.{eqb, ltb}
-use Rattle.sets.specs.Set.{every, howMany}
-use Rattle.group.specs.Fit.{allAck}
+use Rattle.sets.specs.Set.{setOf, howMany}
+use Rattle.bank.specs.Fit.{allAck}
+use Rattle.group.specs.Delivery.{enough}
 use Rattle.group.specs.Step.{Step, broadcast, send, receive, deliver, crash, detect, lose}
 
 -- one message's record; of the sets that each controller has, the controller comes first, then the member
@@ -26,10 +27,9 @@ pub record Sets : Type 0 where
   pub view : ℕ → ℕ → Bool
   pub message : ℕ → RecordSets
 
--- the delivery test of a mode, among n controllers
+-- the group's delivery test, of the words that gather two sets
 unfoldable pub enoughOf : ℕ → ℕ → (ℕ → Bool) → (ℕ → Bool) → Bool
-enoughOf k n trusted received =
-    cond (eqb k allAck) (every (λ i. not (trusted i) || received i) n) (ltb n (2 * howMany received n))
+enoughOf k n trusted received = enough k n (setOf trusted n) (setOf received n)
 
 -- ---- one member in or out, as `v` says
 

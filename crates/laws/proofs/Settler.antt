@@ -7,15 +7,15 @@ use Prim.Native.Nat.{ℕ, zero, suc, _+_, _≤_}
 use native.Mathlib.Nat.{lt-irrefl}
 use native.Mathlib.Omega.{arith}
 use lib.ListN.{length}
-use Rattle.group.specs.Place.{count}
-use Rattle.group.specs.Layout.{Layout, words}
-use Rattle.group.specs.Fit.{Fit}
+use Rattle.bank.specs.Place.{count}
+use Rattle.bank.specs.Layout.{Layout, words}
+use Rattle.bank.specs.Fit.{Fit}
 use Rattle.group.specs.Step.{Step}
 use Rattle.group.specs.Promises.{Allowed, after}
-use Rattle.group.proofs.Rules.{pass}
-use Rattle.group.proofs.Fitness.{facts-fit}
+use Rattle.bank.proofs.Rules.{pass}
+use Rattle.bank.proofs.Fitness.{facts-fit}
 use Rattle.group.proofs.Kept.{fit-after}
-use Rattle.group.proofs.Views.{size-range}
+use Rattle.bank.proofs.Views.{size-range}
 use Rattle.settler.specs.Candidates
 use Rattle.settler.specs.Settling.{Ending, ending, onNext, settleFrom, settleOf}
 use Rattle.laws.specs.Runs.{Run, done, next, Ended, Settling, settlings, most}

@@ -5,12 +5,12 @@ use mathlib.Core.List.{List}
 use Prim.Native.Nat.{ℕ, _≤_}
 use native.Mathlib.Omega.{arith}
 use lib.ListN.{length}
-use Rattle.group.specs.Place.{N, count}
-use Rattle.group.specs.Layout.{Layout, paper, words}
-use Rattle.group.specs.Fit.{Fit, fit}
+use Rattle.bank.specs.Place.{N, count}
+use Rattle.bank.specs.Layout.{Layout, paper, words}
+use Rattle.bank.specs.Fit.{Fit, fit}
 use Rattle.group.specs.Step.{Step}
 use Rattle.group.specs.Promises.{Allowed, after}
-use Rattle.group.proofs.Fitness.{fit-facts}
+use Rattle.bank.proofs.Fitness.{fit-facts}
 use Rattle.settler.specs.Settling.{Ending, settleOf, SettlePromise}
 use Rattle.settler.proofs.Endings.{settle-unfit}
 use Rattle.loargwen.specs.Bytes.{wordsOf}
@@ -45,21 +45,21 @@ module _ (L : Layout) (b : List ℕ) where
 full : (b : List ℕ) → Fit paper b → bound paper b ≤ 41712
 full b f = omega (arith, any-full-bank, any-rises (f .few) (f .given))
 
-u16-always-enough : (b : List ℕ) → Fit paper b → settleOf paper b 65535 .quiet ≡ true
-u16-always-enough b f = quiet-within paper b f 65535 (omega (arith, full b f))
+full-enough : (b : List ℕ) → Fit paper b → (d : ℕ) → 41712 ≤ d → settleOf paper b d .quiet ≡ true
+full-enough b f d l = quiet-within paper b f d (omega (arith, full b f))
 
 answered-fit : (b : List ℕ) (d : ℕ) → settleOf paper b d .refusal ≡ 0 → Fit paper b
 answered-fit b d e =
     fit-facts paper b
     (is-true (fit paper b) (λ u. omega (arith, ap (λ (o : Ending). o .refusal) (settle-unfit paper b d u))))
 
-one-call : (b b′ : List ℕ) (r k : ℕ) (q : Bool) → SettlePromise b 65535 r k q b′
+one-call : (b b′ : List ℕ) (r k : ℕ) (q : Bool) → SettlePromise paper b 65535 r k q b′
     → r ≡ 0 → (k ≤ 41712) × (q ≡ true)
 one-call b b′ r k q p z =
     let f = answered-fit b 65535 (sym (ap (λ (o : Ending). o .refusal) p) ∙ z) in
     let h = settler-run paper 65535 b f in (
       omega (arith, ap (λ (o : Ending). o .steps) p, h .counted, steps-within paper b (h .run), full b f),
-      ap (λ (o : Ending). o .quiet) p ∙ u16-always-enough b f,
+      ap (λ (o : Ending). o .quiet) p ∙ full-enough b f 65535 (omega arith),
     )
 
 -- on bytes an answer of 0 is that of a bank's, with 1 for quiet
@@ -90,7 +90,7 @@ always-ends =
       enough = quiet-within;
       rises = λ n n′ c c′ l k. any-rises l k;
       fullest = any-full-bank;
-      u16-always-enough = λ b f. quiet-within paper b f _ (omega (arith, full b f));
+      u16-always-enough = λ b f. full-enough b f _ (omega arith);
       one-call = one-call;
       one-c-call = one-c-call;
     }

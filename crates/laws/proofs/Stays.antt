@@ -9,12 +9,12 @@ use native.Mathlib.Omega.{arith}
 use lib.Dec.{eqb, ltb}
 use borrow.Author.Tests.{ne-eqb, ltb-true, ltb-false}
 use Rattle.sets.specs.Set.{has}
-use Rattle.group.specs.Place.{N, count, up, logLength, log, message, delivered}
-use Rattle.group.specs.Layout.{Layout, words, upFrom}
-use Rattle.group.specs.Fit.{Fit}
+use Rattle.bank.specs.Place.{N, count, up, logLength, log, message, delivered}
+use Rattle.bank.specs.Layout.{Layout, words, upFrom}
+use Rattle.bank.specs.Fit.{Fit}
 use Rattle.group.specs.Step.{Step, broadcast, send, receive, deliver, crash, detect, lose}
-use Rattle.group.specs.Refusals.{isUp, hasDelivered}
-use Rattle.group.specs.Logs.{logOf}
+use Rattle.group.specs.State.{isUp, hasDelivered}
+use Rattle.lists.specs.Logs.{logOf}
 use Rattle.group.specs.Promises.{Allowed, after}
 use Rattle.laws.specs.Runs.{Run, done, next}
 use Rattle.laws.proofs.Sets.{Sets, RecordSets, Ok, act, newRecord}

@@ -5,14 +5,14 @@ use mathlib.Core.List.{List, [], _∷_}
 use Prim.Native.Nat.{ℕ, _+_, _<_}
 use lib.Dec.{eqb}
 use borrow.Author.Tests.{eqb-true}
-use Rattle.sets.specs.Set.{has, with, without}
-use Rattle.group.specs.Place.{Field, Words, Write, _≔_}
-use Rattle.group.specs.Place.{delivered, inFlight, N, mode, count, up, view, message}
-use Rattle.group.specs.Layout.{Layout, words, inRecord, FieldIn}
+use Rattle.sets.specs.Set.{has, without}
+use Rattle.bank.specs.Place.{Field, Words, recordOf, Write, _≔_, N, mode, count, up, view, message}
+use Rattle.bank.specs.Layout.{Layout, words, inRecord, FieldIn}
 use Rattle.group.specs.Step.{Step, broadcast, send, receive, deliver, crash, detect, lose}
-use Rattle.group.specs.Writes.{freshRecord, sent, received, writes}
+use Rattle.group.specs.Writes.{freshRecord, sent, received, lost, marked, writes}
 use Rattle.group.specs.Promises.{Allowed, after}
-use Rattle.group.proofs.Reading.{later, later-append}
+use Rattle.bank.proofs.Reading.{later, later-append}
+use Rattle.group.proofs.Granted.{broadcast-granted}
 use Rattle.group.proofs.Bounds.{controller-below}
 use Rattle.laws.proofs.Sets.{RecordSets, Sets, setsWith, inMessage, act}
 use Rattle.laws.proofs.Sets.{newRecord, afterSend, afterReceive, afterDeliver, afterLose}
@@ -65,12 +65,11 @@ Named L (lose from to m) = Unit {0}
 
 module _ (w : Words) where
   -- a log's words are no sets
-  deliver-sets : (L : Layout) (i m : ℕ) → sets (λ p. later (writes L w (deliver i m)) p (w p)) ≡ act (sets w)
-      (deliver i m)
+  deliver-sets : (L : Layout) (i m : ℕ)
+      → sets (λ p. later (writes L w (deliver i m)) p (w p)) ≡ act (sets w) (deliver i m)
   unfolding act sets
   deliver-sets L i m =
-      record-sets w m (delivered ≔ with (w (message m delivered)) i ∷ []) (afterDeliver i)
-      (sets-delivered i (λ f. w (message m f)))
+      record-sets w m (marked i (recordOf w m)) (afterDeliver i) (sets-delivered i (recordOf w m))
 
   crash-sets : (L : Layout) (who : ℕ) → sets (λ p. later (writes L w (crash who)) p (w p)) ≡ act (sets w) (crash who)
   unfolding act sets
@@ -113,24 +112,22 @@ module _ (L : Layout) (w : Words) (out : (m : ℕ) (f : Field) → (FieldIn L f 
   unfolding act sets one-more
   written-sets (broadcast who s v) l =
       let m : ℕ = w count in
-      let new = freshRecord L (w N) who s v (λ f. w (message m f)) in
+      let new = freshRecord L (w N) who s v (recordOf w m) in
       ap sets (fun-ext (λ p. later-append (inRecord m new) (count ≔ (m + 1) ∷ []) p (w p)))
       ∙ ap (one-more m)
       (record-sets w m new (λ _. newRecord (w N) who)
-      (ap recordSets (fun-ext (fresh-whole L (w N) who s v (λ f. w (message m f)) l (out m)))
+      (ap recordSets (fun-ext (fresh-whole L (w N) who s v (recordOf w m) l (out m)))
       ∙ sets-fresh (w N) who s v))
   written-sets (send from to m) l =
-      record-sets w m (sent from to (λ f. w (message m f))) (afterSend from to) (sets-sent from to (λ f. w
-      (message m f)))
+      record-sets w m (sent from to (recordOf w m)) (afterSend from to) (sets-sent from to (recordOf w m))
   written-sets (receive i from m) l =
-      record-sets w m (received (w N) i from (λ f. w (message m f))) (afterReceive (w N) i from)
-      (sets-received (w N) i from (λ f. w (message m f)))
+      record-sets w m (received (w N) i from (recordOf w m)) (afterReceive (w N) i from)
+      (sets-received (w N) i from (recordOf w m))
   written-sets (deliver i m) l = deliver-sets w L i m
   written-sets (crash who) l = crash-sets w L who
   written-sets (detect i j) l = detect-sets w L i j
   written-sets (lose from to m) l =
-      record-sets w m (inFlight to ≔ without (w (message m (inFlight to))) from ∷ []) (afterLose from to)
-      (sets-lost from to (λ f. w (message m f)))
+      record-sets w m (lost from to (recordOf w m)) (afterLose from to) (sets-lost from to (recordOf w m))
 
 -- ---- a bank's sets
 
@@ -139,11 +136,12 @@ setsOf L b = sets (visible L (words L b))
 
 pub sets-after : (L : Layout) (b : List ℕ) (s : Step) → Allowed L b s → setsOf L (after L b s) ≡ act (setsOf L b) s
 unfolding setsOf
-sets-after L b s a = ap sets (seen-after L b s a) ∙ written-sets L (visible L (words L b)) (seen-outside L
-    (words L b)) s (named s a)
+sets-after L b s a =
+    ap sets (seen-after L b s a) ∙ written-sets L (visible L (words L b)) (seen-outside L (words L b)) s (named s a)
   where
     named : (s : Step) → Allowed L b s → Named L s
-    named (broadcast who s v) a = controller-below L b (a .sound) who (a .free .0)
+    named (broadcast who s v) a =
+        controller-below L b (a .sound) who (broadcast-granted L (words L b) s v (a .free) .there)
     named (send from to m) a = tt
     named (receive i from m) a = tt
     named (deliver i m) a = tt

@@ -1,11 +1,11 @@
 -- The table of the paper's proved cases holds: computed.
 use mathlib.Core.Path.{refl}
 use Rattle.sets.specs.Set.{has, with, without, allBelow, cut, withAll, every, within, howMany, countBelow}
-use Rattle.group.specs.Layout.{fields}
-use Rattle.group.specs.Opening.{opened}
-use Rattle.group.specs.Refusals.{enough}
+use Rattle.bank.specs.Layout.{fields}
+use Rattle.bank.specs.Opening.{opened}
+use Rattle.group.specs.Delivery.{enough}
 use Rattle.group.specs.Promises.{refusalOf, stepOf}
-use Rattle.group.specs.Lists.{runFrom, runOf}
+use Rattle.lists.specs.Lists.{runFrom, runOf}
 use Rattle.settler.specs.Candidates.{candidates, next}
 use Rattle.settler.specs.Settling.{settleFrom, settleOf}
 use Rattle.day.specs.Days.{dayOf}

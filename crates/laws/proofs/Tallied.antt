@@ -6,14 +6,15 @@ use Prim.Native.Nat.{ℕ, _≤_, _<_}
 use native.Mathlib.Omega.{arith}
 use lib.Dec.{leb}
 use borrow.Author.Tests.{eq-eqb, lt-ltb, le-leb}
-use Rattle.group.specs.Place.{Words, N, count}
-use Rattle.group.specs.Layout.{Layout, words}
+use Rattle.bank.specs.Place.{Words, N, count}
+use Rattle.bank.specs.Layout.{Layout, words}
 use Rattle.group.specs.Step.{Step}
-use Rattle.group.specs.Refusals.{_else_, isController}
-use Rattle.group.specs.Fit.{fit}
-use Rattle.group.specs.Logs.{logOf}
-use Rattle.group.proofs.Rules.{none-broken}
-use Rattle.group.proofs.Fitness.{facts-fit}
+use Rattle.bank.specs.Rules.{_else_}
+use Rattle.group.specs.State.{isController}
+use Rattle.bank.specs.Fit.{fit}
+use Rattle.lists.specs.Logs.{logOf}
+use Rattle.bank.proofs.Rules.{none-broken}
+use Rattle.bank.proofs.Fitness.{facts-fit}
 use Rattle.day.specs.Days.{lastDay}
 use Rattle.day.specs.Tallies.{allGiven, tallyRefusal}
 use Rattle.laws.specs.Logs.{occurs}

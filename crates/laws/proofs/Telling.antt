@@ -5,7 +5,7 @@ use mathlib.Core.Option.{Option, none, some}
 use Prim.Native.Nat.{ℕ, zero, suc, _≤_}
 use native.Mathlib.Nat.{zero-add}
 use lib.ListN.{length}
-use Rattle.group.specs.Layout.{Layout}
+use Rattle.bank.specs.Layout.{Layout}
 use Rattle.group.specs.Step.{Step}
 use Rattle.group.specs.Promises.{Allowed, after}
 use Rattle.settler.specs.Candidates

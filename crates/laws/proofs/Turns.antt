@@ -7,14 +7,15 @@ use Prim.Native.Nat.{ℕ, zero, suc, _+_, _≤_, _<_}
 use native.Mathlib.Omega.{arith}
 use lib.Dec.{eqb, ltb}
 use borrow.Author.Tests.{ne-eqb, eqb-true, ltb-true, ltb-false}
-use Rattle.group.specs.Place.{count, logLength}
-use Rattle.group.specs.Layout.{Layout, words}
-use Rattle.group.specs.Fit.{Fit}
+use Rattle.bank.specs.Place.{count, logLength}
+use Rattle.bank.specs.Layout.{Layout, words}
+use Rattle.bank.specs.Fit.{Fit}
 use Rattle.group.specs.Step.{Step, broadcast, send, receive, deliver, crash, detect, lose}
 use Rattle.group.specs.Promises.{Allowed, after}
+use Rattle.group.proofs.Granted.{deliver-granted}
 use Rattle.group.proofs.Bounds.{controller-below}
 use Rattle.group.proofs.Kept.{fit-after}
-use Rattle.group.proofs.Names.{word-after}
+use Rattle.group.proofs.WritesIn.{word-after}
 use Rattle.settler.specs.Candidates.{next}
 use Rattle.settler.specs.Settling.{onNext}
 use Rattle.laws.specs.Runs.{Settling}
@@ -73,9 +74,9 @@ module _ (L : Layout) (b : List ℕ) where
   roomy-before k o (send from to m) a = tt
   roomy-before k o (receive i from m) a = tt
   roomy-before {e} k o (deliver i m) a =
-      let h : words L (after L b e) (logLength i) < words L (after L b e) count =
-      ltb-true _ _ (a .free .1 .1 .1 .1 .1 .1 .0) in
-      let l = controller-below L (after L b e) (a .sound) i (a .free .0) in
+      let g = deliver-granted L (words L (after L b e)) (a .free) in
+      let h : words L (after L b e) (logLength i) < words L (after L b e) count = ltb-true _ _ (g .room) in
+      let l = controller-below L (after L b e) (a .sound) i (g .due .there) in
       omega (arith, h, log-grows k o i l, count-stays k o)
   roomy-before k o (crash who) a = tt
   roomy-before k o (detect i j) a = tt

@@ -10,19 +10,19 @@ use lib.Dec.{eqb, leb}
 use lib.ListN.{length, take, drop}
 use borrow.Author.Tests.{eqb-true}
 use Rattle.sets.proofs.Tests.{both}
-use Rattle.group.specs.Place.{logLength, log, message, stamp, value}
-use Rattle.group.specs.Layout.{Layout, size, address, words, upFrom}
-use Rattle.group.specs.Fit.{Fit}
-use Rattle.group.specs.Opening.{opened, openRefusal, openOf}
-use Rattle.group.specs.Step.{Step}
+use Rattle.bank.specs.Place.{logLength, log, message, stamp, value}
+use Rattle.bank.specs.Layout.{Layout, size, address, words, upFrom}
+use Rattle.bank.specs.Fit.{Fit}
+use Rattle.bank.specs.Opening.{opened, openRefusal, openOf}
+use Rattle.group.specs.Step.{Step, ask}
 use Rattle.group.specs.Promises.{Allowed, after, stepOf}
-use Rattle.group.specs.Lists.{outcome, runFrom, runOf}
-use Rattle.group.specs.Logs.{logRefusal, usedLength, logOf}
-use Rattle.group.proofs.Rules.{stop}
-use Rattle.group.proofs.Fitness.{fit-facts}
+use Rattle.lists.specs.Lists.{outcome, runFrom, runOf}
+use Rattle.lists.specs.Logs.{logRefusal, usedLength, logOf}
+use Rattle.bank.proofs.Rules.{stop}
+use Rattle.bank.proofs.Fitness.{fit-facts}
 use Rattle.group.proofs.Bounds.{message-below}
 use Rattle.group.proofs.Kept.{fit-after}
-use Rattle.group.proofs.Asking.{log-asked}
+use Rattle.lists.proofs.Asking.{log-asked}
 use Rattle.settler.specs.Candidates.{candidates, firstOf, next}
 use Rattle.settler.specs.Settling.{Ending, ending, onNext, settleFrom, settleOf}
 use Rattle.day.specs.Days.{lastDay}
@@ -59,9 +59,9 @@ module _ (L : Layout) where
   run-from (kind ∷ x ∷ []) n b c e = (refl, refl, e)
   run-from (kind ∷ x ∷ y ∷ []) n b c e = (refl, refl, e)
   run-from (kind ∷ x ∷ y ∷ z ∷ rest) n b c e =
-      let r = refuse-alike L b c e kind x y z in
+      let r = refuse-alike L b c e (ask kind x y z) in
       choose-alike (SameOutcome L) (ap (λ r. eqb r 0) r)
-      (λ _. run-from rest (n + 1) _ _ (go-on-alike L b c e kind x y z))
+      (λ _. run-from rest (n + 1) _ _ (go-on-alike L b c e (ask kind x y z)))
       (refl, r, e)
 
   run-alike : (steps b c : List ℕ) → SameBelow L b c → SameOutcome L (runOf L b steps) (runOf L c steps)
@@ -179,7 +179,7 @@ module _ (L : Layout) (b c : List ℕ) (e : SameBelow L b c) where
       ap₂ dayAnswer (ask-day-alike who day)
       (choose-alike (_≡_) (ap (λ r. eqb r 0) (ask-day-alike who day))
       (λ z. let h = tests-hold L b who day (eqb-true _ 0 z) in
-      add-same (fit-facts L b (h .0)) day empty (logOf L b who) (h .1 .1 .1 .0)
+      add-same (fit-facts L b (h .sound)) day empty (logOf L b who) (h .given)
       ∙ ap (addAll day (words L c) empty) (log-same who))
       refl)
 
@@ -192,7 +192,7 @@ above-unread L b c e =
       opening = open-alike L b c e;
       fitness = fit-same L b c e;
       refusal = refuse-alike L b c e;
-      step = λ kind x y z. (refuse-alike L b c e kind x y z, go-on-alike L b c e kind x y z);
+      step = λ x. (refuse-alike L b c e x, go-on-alike L b c e x);
       run = λ steps. run-alike L steps b c e;
       settle = λ d. settle-alike L d b c e;
       log-length = λ who. (ask-alike L b c e who, used-same L b c e who);

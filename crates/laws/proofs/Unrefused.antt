@@ -8,15 +8,18 @@ use native.Mathlib.Omega.{arith}
 use lib.Dec.{eqb}
 use lib.ListN.{take, drop}
 use borrow.Author.Tests.{eqb-false, ltb-true, lt-ltb, not-true}
-use Rattle.group.specs.Place.{Words}
-use Rattle.group.specs.Layout.{Layout, words}
-use Rattle.group.specs.Fit.{isSize, isMode}
-use Rattle.group.specs.Opening.{opened}
-use Rattle.group.specs.Step.{Step, broadcast, send, receive, deliver, crash, detect, lose, asked}
-use Rattle.group.specs.Refusals.{Rule, firstBroken, Holds, rules, refusal, hasDelivered}
+use Rattle.bank.specs.Place.{Words}
+use Rattle.bank.specs.Layout.{Layout, words}
+use Rattle.bank.specs.Fit.{isSize, isMode}
+use Rattle.bank.specs.Opening.{opened}
+use Rattle.group.specs.Step.{Step, broadcast, send, receive, deliver, crash, detect, lose, asked, Asked}
+use Rattle.bank.specs.Rules.{Rule, firstBroken, Holds}
+use Rattle.group.specs.State.{hasDelivered}
+use Rattle.group.specs.Refusals.{rules, refusal}
 use Rattle.group.specs.Promises.{Allowed, after, askedRefusal, refusalOf}
-use Rattle.group.proofs.Fitness.{facts-fit}
-use Rattle.group.proofs.Rules.{pass}
+use Rattle.bank.proofs.Fitness.{facts-fit}
+use Rattle.bank.proofs.Rules.{pass}
+use Rattle.group.proofs.Granted.{due-granted}
 use Rattle.laws.specs.Runs.{Run}
 use Rattle.laws.proofs.Reached.{fit-run}
 use Rattle.laws.proofs.Logs.{delivered-room}
@@ -41,10 +44,10 @@ not-one (r ∷ rs) ss o k e = go (r .holds) refl (eqb (r .number) 1) refl o e (n
 
 module _ (L : Layout) (n k : ℕ) (fits : isSize L n ≡ true) (known : isMode k ≡ true) where
   pub never-one : {es : List Step} {b : List ℕ} → Run (Allowed L) (after L) (opened L n k) es b
-      → (kind x y z : ℕ) → refusalOf L b kind x y z ≡ 1 → ⊥
+      → (x : Asked) → refusalOf L b x ≡ 1 → ⊥
   unfolding refusalOf
-  never-one {b = b} r kind x y z e =
-      go (asked kind x y z) (sym (pass 1 (facts-fit L b (fit-run L n k fits known r)) refl) ∙ e)
+  never-one {b = b} r x e =
+      go (asked x) (sym (pass 1 (facts-fit L b (fit-run L n k fits known r)) refl) ∙ e)
     where
       w : Words
       w = words L b
@@ -56,8 +59,10 @@ module _ (L : Layout) (n k : ℕ) (fits : isSize L n ≡ true) (known : isMode k
       has-room : (i m : ℕ) → Holds (take 6 (rules L w (deliver i m)))
           → firstBroken (drop 6 (rules L w (deliver i m))) ≡ 1 → ⊥
       has-room i m h q =
-          let not-yet = not-true (hasDelivered w i m) (h .1 .1 .1 .1 .1 .0) in
-          let room = delivered-room L n k fits known r i m (ltb-true _ _ (h .0)) (ltb-true _ _ (h .1 .0)) not-yet in
+          let d = due-granted L w h in
+          let not-yet = not-true (hasDelivered w i m) (d .new) in
+          let room =
+          delivered-room L n k fits known r i m (ltb-true _ _ (d .there)) (ltb-true _ _ (d .given)) not-yet in
           let z : _≡_ {A = ℕ} 0 1 = sym (pass 1 (lt-ltb _ _ room) refl) ∙ q in omega arith
 
       go : (o : Option Step) → askedRefusal L b o ≡ 1 → ⊥

@@ -5,13 +5,14 @@ use mathlib.Core.List.{List}
 use Prim.Native.Nat.{ℕ}
 use lib.Dec.{eqb, ltb}
 use borrow.Author.Tests.{eq-eqb}
-use Rattle.group.specs.Place.{Place, Words, recordOf, N, count}
-use Rattle.group.specs.Layout.{Layout, words, inRecord, PlaceIn}
+use Rattle.bank.specs.Place.{Place, Words, recordOf, N, count}
+use Rattle.bank.specs.Layout.{Layout, words, inRecord, PlaceIn}
 use Rattle.group.specs.Step.{Step, broadcast, send, receive, deliver, crash, detect, lose}
 use Rattle.group.specs.Writes.{freshRecord, writes}
 use Rattle.group.specs.Promises.{Allowed, after}
-use Rattle.group.proofs.Places.{Key, key}
-use Rattle.group.proofs.Names.{Aside, aside-append, record-aside, later-aside, word-after}
+use Rattle.bank.proofs.Places.{Key, key}
+use Rattle.bank.proofs.Names.{Aside, aside-append, record-aside, later-aside}
+use Rattle.group.proofs.WritesIn.{word-after}
 
 -- ---- what each step leaves alone
 

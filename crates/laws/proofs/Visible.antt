@@ -8,18 +8,18 @@ use lib.Dec.{ltb}
 use lib.ListN.{getD}
 use borrow.Author.Tests.{lt-ltb, ltb-true}
 use Rattle.sets.proofs.Tests.{both}
-use Rattle.group.specs.Place.{Field, Place, Words, recordOf, Write, _≔_}
-use Rattle.group.specs.Place.{held, delivered, acked, unsent, inFlight}
-use Rattle.group.specs.Place.{N, mode, count, up, view, logLength, log, message}
-use Rattle.group.specs.Layout.{Layout, recordWidths, words, inRecord, regionIn, index, PlaceIn, FieldIn}
+use Rattle.bank.specs.Place.{Field, Place, Words, recordOf, Write, _≔_, held, delivered, acked, unsent, inFlight, N}
+use Rattle.bank.specs.Place.{mode, count, up, view, logLength, log, message}
+use Rattle.bank.specs.Layout.{Layout, recordWidths, words, inRecord, regionIn, index, PlaceIn, FieldIn}
 use Rattle.group.specs.Step.{Step, broadcast, send, receive, deliver, crash, detect, lose}
 use Rattle.group.specs.Writes.{freshRecord, writes}
 use Rattle.group.specs.Promises.{Allowed, after}
-use Rattle.group.proofs.Places.{Key, key, samePlace}
-use Rattle.group.proofs.Reading.{later, AllIn, words-after}
-use Rattle.group.proofs.Bounds.{controller-below, message-below, copy-below}
+use Rattle.bank.proofs.Places.{Key, key, samePlace}
+use Rattle.bank.proofs.Reading.{later, AllIn, words-after}
+use Rattle.group.proofs.Granted.{send-granted, receive-granted, deliver-granted, detect-granted, lose-granted}
+use Rattle.group.proofs.Bounds.{controller-below, message-below, ends-below}
 use Rattle.group.proofs.WritesIn.{writes-in}
-use Rattle.group.proofs.Names.{one-name}
+use Rattle.bank.proofs.Names.{one-name}
 
 -- ---- whether a layout has a place, by its key
 
@@ -134,29 +134,30 @@ module _ (L : Layout) where
       new : ℕ → ℕ → List (Write Place)
       new n m = inRecord m (freshRecord L n who s v (recordOf (words L b) m)) ++ (count ≔ (m + 1) ∷ [])
   seen-writes b (send from to m) a =
-      let c = copy-below L b (a .sound) (a .free .0) (a .free .1 .0) (a .free .1 .1 .0) in
+      let e = ends-below L b (a .sound) (send-granted L (words L b) (a .free) .ends) in
       sym
       (rw (
-        seen-in (words L b) (message m (unsent from)) (c .2, c .0),
-        seen-in (words L b) (message m (inFlight to)) (c .2, c .1),
+        seen-in (words L b) (message m (unsent from)) (e .message, e .first),
+        seen-in (words L b) (message m (inFlight to)) (e .message, e .second),
       )
       refl)
   seen-writes b (receive i from m) a =
-      let c = copy-below L b (a .sound) (a .free .0) (a .free .1 .0) (a .free .1 .1 .0) in
+      let e = ends-below L b (a .sound) (receive-granted L (words L b) (a .free) .ends) in
       let here : (f : Field) → FieldIn L f → visible (words L b) (message m f) ≡ words L b (message m f) =
-      λ f h. seen-in (words L b) (message m f) (c .2, h) in
+      λ f h. seen-in (words L b) (message m f) (e .message, h) in
       sym
       (rw (
-        here (inFlight i) (c .0),
-        here (acked i) (c .0),
+        here (inFlight i) (e .first),
+        here (acked i) (e .first),
         here held (omega arith),
-        here (unsent i) (c .0),
+        here (unsent i) (e .first),
         seen-in (words L b) N tt,
       )
       refl)
   seen-writes b (deliver i m) a =
-      let j = controller-below L b (a .sound) i (a .free .0) in
-      let k = message-below L b (a .sound) m (a .free .1 .0) in
+      let g = deliver-granted L (words L b) (a .free) in
+      let j = controller-below L b (a .sound) i (g .due .there) in
+      let k = message-below L b (a .sound) m (g .due .given) in
       sym
       (rw (
         seen-in (words L b) (message m delivered) (k, omega arith),
@@ -165,10 +166,11 @@ module _ (L : Layout) where
       refl)
   seen-writes b (crash who) a = sym (rw (seen-in (words L b) up tt) refl)
   seen-writes b (detect i j) a =
-      sym (rw (seen-in (words L b) (view i) (controller-below L b (a .sound) i (a .free .0))) refl)
+      let g = detect-granted L (words L b) (a .free) in
+      sym (rw (seen-in (words L b) (view i) (controller-below L b (a .sound) i (g .first))) refl)
   seen-writes b (lose from to m) a =
-      let c = copy-below L b (a .sound) (a .free .0) (a .free .1 .0) (a .free .1 .1 .0) in
-      sym (rw (seen-in (words L b) (message m (inFlight to)) (c .2, c .1)) refl)
+      let e = ends-below L b (a .sound) (lose-granted L (words L b) (a .free) .ends) in
+      sym (rw (seen-in (words L b) (message m (inFlight to)) (e .message, e .second)) refl)
 
   pub seen-after : (b : List ℕ) (s : Step) → Allowed L b s
       → visible (words L (after L b s)) ≡ (λ p. later (writes L (visible (words L b)) s) p (visible (words L b) p))

@@ -5,8 +5,7 @@ use Prim.Native.Nat.{ℕ, _+_, _*_, _≤_, _<_}
 use native.Mathlib.Nat.{mul-add, mul-assoc, mul-one}
 use native.Mathlib.Omega.{arith}
 use lib.Dec.{eqb, ltb}
-use Rattle.laws.proofs.Sets.{RecordSets, cell, newRecord}
-use Rattle.laws.proofs.Sets.{afterSend, afterReceive, afterDeliver, afterLose}
+use Rattle.laws.proofs.Sets.{RecordSets, cell, newRecord, afterSend, afterReceive, afterDeliver, afterLose}
 use Rattle.laws.proofs.Cells.{on-one, on-cell}
 use Rattle.laws.proofs.Sums.{sum, sum-most, sum-drop}
 

@@ -2,20 +2,18 @@
 use mathlib.Core.Path.{_≡_, refl, sym, ap, _∙_}
 use mathlib.Core.Logic.{⊎-elim}
 use mathlib.Core.Bool.{Bool, true, false, cond}
-use mathlib.Core.List.{List, [], _∷_, _++_, map}
-use mathlib.Core.List.{List·Memᴰ, List·Memᴰ·head, List·Memᴰ·tail, List·Memᴰ·cases-cons, List·Memᴰ·not-nil}
-use mathlib.Core.List.{Memᴰ·append-left, Memᴰ·append-right}
+use mathlib.Core.List.{List, [], _∷_, _++_, map, List·Memᴰ, List·Memᴰ·head, List·Memᴰ·tail, List·Memᴰ·cases-cons}
+use mathlib.Core.List.{List·Memᴰ·not-nil, Memᴰ·append-left, Memᴰ·append-right}
 use Prim.Native.Nat.{ℕ, zero, suc, _+_, _≤_, _<_}
 use native.Mathlib.Nat.{eq-or-lt-of-le}
 use native.Mathlib.Omega.{arith}
 use borrow.Author.Tests.{eq-eqb}
-use Rattle.group.specs.Place.{Field, Place, Write, _≔_}
-use Rattle.group.specs.Place.{N, mode, count, up, view, logLength, log, message}
-use Rattle.group.specs.Place.{sender, stamp, value, held, delivered, acked, unsent, inFlight}
-use Rattle.group.specs.Layout.{Layout, upFrom, fields, inRecord, FieldIn, regionIn, index}
-use Rattle.group.proofs.Places.{samePlace}
-use Rattle.group.proofs.Names.{one-name}
-use Rattle.group.proofs.Reading.{later}
+use Rattle.bank.specs.Place.{Field, Place, Write, _≔_, N, mode, count, up, view, logLength, log, message, sender, stamp}
+use Rattle.bank.specs.Place.{value, held, delivered, acked, unsent, inFlight}
+use Rattle.bank.specs.Layout.{Layout, upFrom, fields, inRecord, FieldIn, regionIn, index}
+use Rattle.bank.proofs.Places.{samePlace}
+use Rattle.bank.proofs.Names.{one-name}
+use Rattle.bank.proofs.Reading.{later}
 
 -- the word of a record that a place names
 fieldOf : Place → Field

@@ -10,16 +10,17 @@ use lib.ListN.{length}
 use borrow.Author.Tests.{eq-eqb, eqb-true}
 use Rattle.sets.specs.Set.{has, with, without, allBelow, cut, withAll, every, within, howMany, countBelow}
 use Rattle.sets.proofs.Tests.{both}
-use Rattle.group.specs.Place.{count, message, delivered}
-use Rattle.group.specs.Layout.{Layout, paper, words, fields}
-use Rattle.group.specs.Fit.{Fit, isMode, allAck}
-use Rattle.group.specs.Opening.{opened}
+use Rattle.bank.specs.Place.{count, message, delivered}
+use Rattle.bank.specs.Layout.{Layout, paper, words, fields}
+use Rattle.bank.specs.Fit.{Fit, isMode, allAck}
+use Rattle.bank.specs.Opening.{opened}
 use Rattle.group.specs.Step.{Step, send, receive, deliver, detect}
-use Rattle.group.specs.Refusals.{enough, isUp, hasDelivered}
-use Rattle.group.specs.Logs.{logOf}
+use Rattle.group.specs.State.{isUp, hasDelivered}
+use Rattle.group.specs.Delivery.{enough}
+use Rattle.lists.specs.Logs.{logOf}
 use Rattle.group.specs.Promises.{Allowed, after, refusalOf, stepOf}
-use Rattle.group.specs.Lists.{runFrom, runOf}
-use Rattle.group.proofs.Rules.{free-step}
+use Rattle.lists.specs.Lists.{runFrom, runOf}
+use Rattle.group.proofs.StepRules.{free-step}
 use Rattle.group.proofs.Kept.{fit-after}
 use Rattle.settler.specs.Candidates.{free, candidates}
 use Rattle.settler.specs.Candidates

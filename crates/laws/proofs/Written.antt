@@ -8,13 +8,13 @@ use native.Mathlib.Omega.{arith}
 use lib.Dec.{eqb, ltb}
 use borrow.Author.Tests.{eq-eqb, ne-eqb, ltb-true, ltb-false}
 use Rattle.sets.specs.Set.{allBelow}
-use Rattle.group.specs.Place.{Field, Place, Record, Write, _≔_, message}
-use Rattle.group.specs.Place.{sender, stamp, value, held, delivered, acked, unsent, inFlight}
-use Rattle.group.specs.Layout.{Layout, fields, inRecord, regionIn, index, FieldIn}
+use Rattle.bank.specs.Place.{Field, Place, Record, Write, _≔_, message}
+use Rattle.bank.specs.Place.{sender, stamp, value, held, delivered, acked, unsent, inFlight}
+use Rattle.bank.specs.Layout.{Layout, fields, inRecord, regionIn, index, FieldIn}
 use Rattle.group.specs.Writes.{fresh}
-use Rattle.group.proofs.Places.{Key, key, sameField}
-use Rattle.group.proofs.Reading.{later}
-use Rattle.group.proofs.Names.{record-aside, later-aside}
+use Rattle.bank.proofs.Places.{Key, key, sameField}
+use Rattle.bank.proofs.Reading.{later}
+use Rattle.bank.proofs.Names.{record-aside, later-aside}
 use Rattle.laws.proofs.Whole.{stays, record-word}
 use Rattle.laws.proofs.Bridge.{laterIn}
 

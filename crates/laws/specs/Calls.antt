@@ -6,11 +6,11 @@ use mathlib.Core.List.{List, [], _∷_, _++_}
 use mathlib.Core.Option.{Option, none, some}
 use lib.Dec.{eqb}
 use lib.ListN.{length}
-use Rattle.group.specs.Layout.{paper}
-use Rattle.group.specs.Step.{Step, asked}
-use Rattle.group.specs.Opening.{openOf}
-use Rattle.group.specs.Promises.{Allowed, after, stepOf, OpenPromise, StepPromise}
-use Rattle.group.specs.Lists.{runOf, RunPromise}
+use Rattle.bank.specs.Layout.{paper}
+use Rattle.group.specs.Step.{Step, asked, Asked, ask}
+use Rattle.bank.specs.Opening.{openOf, OpenPromise}
+use Rattle.group.specs.Promises.{Allowed, after, stepOf, StepPromise}
+use Rattle.lists.specs.Lists.{runOf, RunPromise}
 use Rattle.settler.specs.Settling.{ending, settleOf, SettlePromise}
 use Rattle.step_records.specs.declared.Step.{Step as StepRecord}
 use Rattle.step_records.specs.Records.{flat, StepsPromise}
@@ -32,7 +32,7 @@ ifAccepted r o = cond (eqb r 0) (asksFor o) []
 -- the first a steps that a list of words asks for, four words a step
 abbrev pub asksFirst : ℕ → List ℕ → List Step
 asksFirst zero steps = []
-asksFirst (suc a) (kind ∷ x ∷ y ∷ z ∷ rest) = asksFor (asked kind x y z) ++ asksFirst a rest
+asksFirst (suc a) (kind ∷ x ∷ y ∷ z ∷ rest) = asksFor (asked (ask kind x y z)) ++ asksFirst a rest
 asksFirst (suc a) [] = []
 asksFirst (suc a) (kind ∷ []) = []
 asksFirst (suc a) (kind ∷ x ∷ []) = []
@@ -43,30 +43,30 @@ asksFirst (suc a) (kind ∷ x ∷ y ∷ []) = []
 -- an open that is not refused begins another group
 pub data Call : Type 0 where
   openRefused : (n mode refusal : ℕ) → (refusal ≡ 0 → ⊥) → Call
-  step : (kind a b c refusal : ℕ) → Call
+  step : (x : Asked) (refusal : ℕ) → Call
   run : (steps : List ℕ) (accepted refusal : ℕ) → Call
   runSteps : (steps : List StepRecord) (accepted refusal : ℕ) → Call
   settle : (budget refusal steps : ℕ) (quiet : Bool) → Call
 
 -- what the call promises of the bank before it and the bank after it
 abbrev pub Promised : List ℕ → Call → List ℕ → Type 0
-Promised b (openRefused n k r z) c = OpenPromise b n k r c
-Promised b (step kind x y z r) c = StepPromise b kind x y z r c
-Promised b (run steps a r) c = RunPromise b steps a r c
+Promised b (openRefused n k r z) c = OpenPromise paper b n k r c
+Promised b (step x r) c = StepPromise paper b x r c
+Promised b (run steps a r) c = RunPromise paper b steps a r c
 Promised b (runSteps steps a r) c = StepsPromise b steps a r c
-Promised b (settle d r t q) c = SettlePromise b d r t q c
+Promised b (settle d r t q) c = SettlePromise paper b d r t q c
 
 -- the steps that it took, and how many its answer counts; a settling's are the settler's own first so many
 abbrev pub stepsOf : List ℕ → Call → List Step
 stepsOf b (openRefused n k r z) = []
-stepsOf b (step kind x y z r) = ifAccepted r (asked kind x y z)
+stepsOf b (step x r) = ifAccepted r (asked x)
 stepsOf b (run steps a r) = asksFirst a steps
 stepsOf b (runSteps steps a r) = asksFirst a (flat steps)
 stepsOf b (settle d r t q) = chosen paper t b
 
 abbrev pub countOf : Call → ℕ
 countOf (openRefused n k r z) = 0
-countOf (step kind x y z r) = cond (eqb r 0) 1 0
+countOf (step x r) = cond (eqb r 0) 1 0
 countOf (run steps a r) = a
 countOf (runSteps steps a r) = a
 countOf (settle d r t q) = t
@@ -75,8 +75,8 @@ countOf (settle d r t q) = t
 pub record EveryAnswer (b : List ℕ) : Type 0 where
   pub of-open : (n k : ℕ) (z : openOf paper b n k .refusal ≡ 0 → ⊥)
       → Promised b (openRefused n k (openOf paper b n k .refusal) z) (openOf paper b n k .bank)
-  pub of-step : (kind x y z : ℕ)
-      → let a = stepOf paper b kind x y z in Promised b (step kind x y z (a .refusal)) (a .bank)
+  pub of-step : (x : Asked)
+      → let a = stepOf paper b x in Promised b (step x (a .refusal)) (a .bank)
   pub of-run : (list : List ℕ)
       → let o = runOf paper b list in Promised b (run list (o .accepted) (o .refusal)) (o .bank)
   pub of-records : (list : List StepRecord)
@@ -94,7 +94,7 @@ pub data Calls {C : Type 0} (Opened : List ℕ → Type 0) (Promised : List ℕ 
       → Calls Opened Promised stepsOf (before ++ stepsOf b x) c
 
 abbrev pub Called : ℕ → ℕ → List Step → List ℕ → Type 0
-Called n k = Calls (λ c. (b : List ℕ) × OpenPromise b n k 0 c) Promised stepsOf
+Called n k = Calls (λ c. (b : List ℕ) × OpenPromise paper b n k 0 c) Promised stepsOf
 
 -- no open is left out: whatever the memory held, one that answers 0 begins such calls
 abbrev pub EveryOpen : Type 0
@@ -114,7 +114,8 @@ pub record CallersRely (n k : ℕ) (before : List Step) (b : List ℕ) : Type 0 
   pub every-answer : EveryAnswer b
   pub leads : (x : Call) (c : List ℕ) → Promised b x c → Run (Allowed paper) (after paper) b (stepsOf b x) c
   pub counts : (x : Call) (c : List ℕ) → Promised b x c → length (stepsOf b x) ≡ countOf x
-  pub settling : (d r t : ℕ) (q : Bool) (c : List ℕ) → SettlePromise b d r t q c → Tells paper b d (ending r t q c)
+  pub settling : (d r t : ℕ) (q : Bool) (c : List ℕ) → SettlePromise paper b d r t q c
+      → Tells paper b d (ending r t q c)
 
 abbrev pub EveryCaller : Type 0
 EveryCaller = (n k : ℕ) (before : List Step) (b : List ℕ) → Called n k before b → CallersRely n k before b

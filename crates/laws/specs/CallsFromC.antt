@@ -5,9 +5,9 @@ use mathlib.Core.Bool.{cond}
 use mathlib.Core.List.{List, []}
 use lib.Dec.{eqb}
 use lib.ListN.{length}
-use Rattle.group.specs.Layout.{paper}
-use Rattle.group.specs.Step.{Step, asked}
-use Rattle.group.specs.Opening.{openOf}
+use Rattle.bank.specs.Layout.{paper}
+use Rattle.group.specs.Step.{Step, asked, Asked}
+use Rattle.bank.specs.Opening.{openOf}
 use Rattle.group.specs.Promises.{Allowed, after, stepOf}
 use Rattle.settler.specs.Settling.{ending, settleOf}
 use Rattle.loargwen.specs.Bytes.{wordsOf, bytesOf}
@@ -19,22 +19,22 @@ use Rattle.laws.specs.Calls.{ifAccepted, Calls, Relies}
 -- each call with its numbers and what it answered; quiet is 1 or 0
 pub data CCall : Type 0 where
   openRefused : (n mode refusal : ℕ) → (refusal ≡ 0 → ⊥) → CCall
-  step : (kind a b c refusal : ℕ) → CCall
+  step : (x : Asked) (refusal : ℕ) → CCall
   settle : (budget refusal steps quiet : ℕ) → CCall
 
 abbrev pub PromisedToC : List ℕ → CCall → List ℕ → Type 0
 PromisedToC bytes (openRefused n k r z) new = OpenBytes bytes n k r new
-PromisedToC bytes (step kind x y z r) new = StepBytes bytes kind x y z r new
+PromisedToC bytes (step x r) new = StepBytes bytes x r new
 PromisedToC bytes (settle d r t q) new = SettleBytes bytes d r t q new
 
 abbrev pub stepsOfC : List ℕ → CCall → List Step
 stepsOfC bytes (openRefused n k r z) = []
-stepsOfC bytes (step kind x y z r) = ifAccepted r (asked kind x y z)
+stepsOfC bytes (step x r) = ifAccepted r (asked x)
 stepsOfC bytes (settle d r t q) = chosen paper t (wordsOf bytes)
 
 abbrev pub countOfC : CCall → ℕ
 countOfC (openRefused n k r z) = 0
-countOfC (step kind x y z r) = cond (eqb r 0) 1 0
+countOfC (step x r) = cond (eqb r 0) 1 0
 countOfC (settle d r t q) = t
 
 -- none is left out
@@ -42,9 +42,9 @@ pub record EveryAnswerToC (bytes : List ℕ) : Type 0 where
   pub of-open : (n k : ℕ)
       → let a = onBytes bytes (openOf paper (wordsOf bytes) n k) in
       (z : a .refusal ≡ 0 → ⊥) → PromisedToC bytes (openRefused n k (a .refusal) z) (a .bank)
-  pub of-step : (kind x y z : ℕ)
-      → let a = onBytes bytes (stepOf paper (wordsOf bytes) kind x y z) in
-      PromisedToC bytes (step kind x y z (a .refusal)) (a .bank)
+  pub of-step : (x : Asked)
+      → let a = onBytes bytes (stepOf paper (wordsOf bytes) x) in
+      PromisedToC bytes (step x (a .refusal)) (a .bank)
   pub of-settle : (d : ℕ)
       → let e = settleOnBytes bytes (settleOf paper (wordsOf bytes) d) in
       PromisedToC bytes (settle d (e .refusal) (e .steps) (e .quiet)) (e .bytes)

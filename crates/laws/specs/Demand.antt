@@ -6,12 +6,12 @@ use mathlib.Core.Logic.{_⊎_}
 use mathlib.Core.List.{List}
 use lib.ListN.{length}
 use Rattle.sets.specs.Set.{countBelow}
-use Rattle.group.specs.Place.{Place, N, mode, up, logLength, log}
-use Rattle.group.specs.Layout.{Layout, size, words, PlaceIn}
-use Rattle.group.specs.Fit.{isSize, isMode, allAck}
-use Rattle.group.specs.Opening.{opened}
+use Rattle.bank.specs.Place.{Place, N, mode, up, logLength, log}
+use Rattle.bank.specs.Layout.{Layout, size, words, PlaceIn}
+use Rattle.bank.specs.Fit.{isSize, isMode, allAck}
+use Rattle.bank.specs.Opening.{opened}
 use Rattle.group.specs.Step.{Step}
-use Rattle.group.specs.Logs.{logOf}
+use Rattle.lists.specs.Logs.{logOf}
 use Rattle.group.specs.Promises.{Allowed, after}
 use Rattle.laws.specs.Runs.{Run, Ended, Settling}
 use Rattle.laws.specs.Logs.{occurs}

@@ -4,12 +4,12 @@ use mathlib.Core.Path.{_≡_}
 use mathlib.Core.Bool.{true, false}
 use mathlib.Core.List.{List, _++_}
 use lib.ListN.{length}
-use Rattle.group.specs.Place.{N, mode, count, up, message, sender}
-use Rattle.group.specs.Layout.{Layout, words}
-use Rattle.group.specs.Fit.{Fit}
-use Rattle.group.specs.Step.{Step}
-use Rattle.group.specs.Refusals.{isUp, hasDelivered}
-use Rattle.group.specs.Logs.{logOf}
+use Rattle.bank.specs.Place.{N, mode, count, up, message, sender}
+use Rattle.bank.specs.Layout.{Layout, words}
+use Rattle.bank.specs.Fit.{Fit}
+use Rattle.group.specs.Step.{Step, Asked}
+use Rattle.group.specs.State.{isUp, hasDelivered}
+use Rattle.lists.specs.Logs.{logOf}
 use Rattle.group.specs.Promises.{Allowed, after, stepOf}
 use Rattle.settler.specs.Settling.{settleOf}
 use Rattle.day.specs.Days.{lastDay}
@@ -36,7 +36,7 @@ pub record Demand3 (L : Layout) (n k : ℕ) (before : List Step) (b : List ℕ) 
   -- "an opened group never gets there": the bank is fit, and neither a step, for a full log, nor a tally, for a stray
   -- entry, is refused by 1
   pub fit : Fit L b
-  pub steps-find-room : (kind x y z : ℕ) → stepOf L b kind x y z .refusal ≡ 1 → ⊥
+  pub steps-find-room : (x : Asked) → stepOf L b x .refusal ≡ 1 → ⊥
   pub no-stray-entry : (who day : ℕ) → who < n → day ≤ lastDay → tallyRefusal L b who day ≡ 0
   -- ---- at every later moment x, whatever steps were accepted on the way
 

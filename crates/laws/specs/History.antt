@@ -3,8 +3,8 @@ use Prim.Native.Nat.{ℕ, _<_}
 use mathlib.Core.Path.{_≡_}
 use mathlib.Core.List.{List, [], _∷_, _++_}
 use lib.ListN.{length, getD}
-use Rattle.group.specs.Place.{count, message, sender, stamp, value}
-use Rattle.group.specs.Layout.{Layout, words}
+use Rattle.bank.specs.Place.{count, message, sender, stamp, value}
+use Rattle.bank.specs.Layout.{Layout, words}
 use Rattle.group.specs.Step.{Step, broadcast, send, receive, deliver, crash, detect, lose}
 
 -- one broadcast: by whom, with which stamp and which value

@@ -5,10 +5,10 @@ use mathlib.Core.Bool.{cond}
 use mathlib.Core.List.{List, [], _∷_}
 use lib.Dec.{eqb}
 use Rattle.sets.specs.Set.{howMany}
-use Rattle.group.specs.Place.{N, count, logLength}
-use Rattle.group.specs.Layout.{Layout, words}
-use Rattle.group.specs.Refusals.{hasDelivered}
-use Rattle.group.specs.Logs.{logOf}
+use Rattle.bank.specs.Place.{N, count, logLength}
+use Rattle.bank.specs.Layout.{Layout, words}
+use Rattle.group.specs.State.{hasDelivered}
+use Rattle.lists.specs.Logs.{logOf}
 
 -- how often a number stands in a list
 unfoldable pub occurs : ℕ → List ℕ → ℕ

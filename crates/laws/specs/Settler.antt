@@ -4,7 +4,7 @@ use mathlib.Core.Path.{_≡_}
 use mathlib.Core.Bool.{true, false}
 use mathlib.Core.List.{List, [], _∷_}
 use lib.ListN.{length}
-use Rattle.group.specs.Layout.{Layout}
+use Rattle.bank.specs.Layout.{Layout}
 use Rattle.group.specs.Step.{Step, broadcast, send, receive, deliver, crash, detect, lose}
 use Rattle.group.specs.Promises.{Allowed, after}
 use Rattle.settler.specs.Candidates.{next}

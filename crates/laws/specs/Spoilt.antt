@@ -4,9 +4,9 @@ use mathlib.Core.Path.{_≡_}
 use mathlib.Core.Bool.{Bool, true}
 use mathlib.Core.List.{List}
 use lib.ListN.{length}
-use Rattle.group.specs.Place.{N, count}
-use Rattle.group.specs.Layout.{Layout, paper, words}
-use Rattle.group.specs.Fit.{Fit}
+use Rattle.bank.specs.Place.{N, count}
+use Rattle.bank.specs.Layout.{Layout, paper, words}
+use Rattle.bank.specs.Fit.{Fit}
 use Rattle.group.specs.Step.{Step}
 use Rattle.group.specs.Promises.{Allowed, after}
 use Rattle.settler.specs.Settling.{settleOf, SettlePromise}
@@ -26,7 +26,7 @@ pub record AlwaysEnds : Type 0 where
   -- so the largest u16 is budget enough for every bank of the paper's size
   pub u16-always-enough : (b : List ℕ) → Fit paper b → settleOf paper b 65535 .quiet ≡ true
   -- as a caller sees it: a settle with that budget that answers 0 has taken at most 41,712 steps, and none is left
-  pub one-call : (b b′ : List ℕ) (r k : ℕ) (q : Bool) → SettlePromise b 65535 r k q b′
+  pub one-call : (b b′ : List ℕ) (r k : ℕ) (q : Bool) → SettlePromise paper b 65535 r k q b′
       → r ≡ 0 → (k ≤ 41712) × (q ≡ true)
   -- and the same from C, where quiet is 1
   pub one-c-call : (bytes new : List ℕ) (r k q : ℕ) → SettleBytes bytes 65535 r k q new

@@ -3,11 +3,11 @@ use Prim.Native.Nat.{ℕ}
 use mathlib.Core.Path.{_≡_}
 use mathlib.Core.Bool.{Bool, true, false}
 use mathlib.Core.List.{List, [], _∷_, map}
-use Rattle.group.specs.Place.{message, held, delivered, acked}
-use Rattle.group.specs.Layout.{paper, words, upFrom}
-use Rattle.group.specs.Opening.{opened}
-use Rattle.group.specs.Lists.{Outcome, runOf}
-use Rattle.group.specs.Logs.{logOf}
+use Rattle.bank.specs.Place.{message, held, delivered, acked}
+use Rattle.bank.specs.Layout.{paper, words, upFrom}
+use Rattle.bank.specs.Opening.{opened}
+use Rattle.lists.specs.Lists.{Outcome, runOf}
+use Rattle.lists.specs.Logs.{logOf}
 use Rattle.settler.specs.Settling.{Ending, settleOf}
 use Rattle.day.specs.Tallies.{tallyOf}
 

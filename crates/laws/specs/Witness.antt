@@ -5,12 +5,12 @@ use Prim.Native.Nat.{ℕ}
 use mathlib.Core.Path.{_≡_}
 use mathlib.Core.Bool.{true}
 use mathlib.Core.List.{List, [], _∷_}
-use Rattle.group.specs.Layout.{paper, words}
-use Rattle.group.specs.Opening.{opened}
+use Rattle.bank.specs.Layout.{paper, words}
+use Rattle.bank.specs.Opening.{opened}
 use Rattle.group.specs.Step.{Step}
-use Rattle.group.specs.Refusals.{isUp}
-use Rattle.group.specs.Lists.{Outcome, runOf}
-use Rattle.group.specs.Logs.{logOf}
+use Rattle.group.specs.State.{isUp}
+use Rattle.lists.specs.Lists.{Outcome, runOf}
+use Rattle.lists.specs.Logs.{logOf}
 use Rattle.settler.specs.Settling.{Ending, settleOf}
 use Rattle.laws.specs.Demand.{Reached, Finished, Quorum}
 use Rattle.laws.specs.Calls.{asksFirst}

@@ -5,11 +5,11 @@ use mathlib.Core.Bool.{Bool, false, cond}
 use mathlib.Core.List.{List}
 use lib.ListN.{length}
 use borrow.Author.Tests.{eq-eqb, ne-eqb}
-use Rattle.group.specs.Layout.{paper, size}
-use Rattle.group.specs.Opening.{Answer, answer}
+use Rattle.bank.specs.Layout.{paper, size}
+use Rattle.bank.specs.Opening.{Answer, answer}
 use Rattle.settler.specs.Settling.{Ending, ending}
 use Rattle.day.specs.Tallies
-use Rattle.group.proofs.Rules.{pass, stop}
+use Rattle.bank.proofs.Rules.{pass, stop}
 use Rattle.loargwen.specs.Bytes.{bytesOf}
 use Rattle.loargwen.specs.Face.{isBank, bytesAfter, onBytes, flag, settledBytes, settleOnBytes}
 

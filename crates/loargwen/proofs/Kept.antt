@@ -4,8 +4,9 @@ use mathlib.Core.Path.{_≡_, refl, sym, ap, _∙_}
 use mathlib.Core.Bool.{Bool, true, false, cond}
 use mathlib.Core.List.{List}
 use native.Mathlib.Omega.{arith}
-use Rattle.group.specs.Layout.{paper}
-use Rattle.group.specs.Opening.{Answer, answer, openOf}
+use Rattle.bank.specs.Layout.{paper}
+use Rattle.bank.specs.Opening.{Answer, answer, openOf}
+use Rattle.group.specs.Step.{Asked}
 use Rattle.group.specs.Promises.{stepOf}
 use Rattle.settler.specs.Settling.{settleOf}
 use Rattle.loargwen.specs.Bytes.{wordsOf, bytesOf}
@@ -68,15 +69,15 @@ module _ (bytes : List ℕ) (n k : ℕ) {r : ℕ} {new : List ℕ} (e : OpenByte
   pub open-hands-on : r ≡ 0 → wordsOf new ≡ openOf paper (wordsOf bytes) n k .bank
   open-hands-on = handed-on open-left
 
-module _ (bytes : List ℕ) (kind x y z : ℕ) {r : ℕ} {new : List ℕ} (e : StepBytes bytes kind x y z r new) where
-  pub step-left : Left bytes new r (stepOf paper (wordsOf bytes) kind x y z .refusal)
-      (stepOf paper (wordsOf bytes) kind x y z .bank)
+module _ (bytes : List ℕ) (x : Asked) {r : ℕ} {new : List ℕ} (e : StepBytes bytes x r new) where
+  pub step-left : Left bytes new r (stepOf paper (wordsOf bytes) x .refusal)
+      (stepOf paper (wordsOf bytes) x .bank)
   step-left = answer-left bytes new r _ e
 
   pub step-refused : (r ≡ 0 → ⊥) → new ≡ bytes
   step-refused = unchanged step-left
 
-  pub step-hands-on : r ≡ 0 → wordsOf new ≡ stepOf paper (wordsOf bytes) kind x y z .bank
+  pub step-hands-on : r ≡ 0 → wordsOf new ≡ stepOf paper (wordsOf bytes) x .bank
   step-hands-on = handed-on step-left
 
 module _ (bytes : List ℕ) (budget : ℕ) {r k q : ℕ} {new : List ℕ} (e : SettleBytes bytes budget r k q new) where

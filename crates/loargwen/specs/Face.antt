@@ -5,8 +5,9 @@ use mathlib.Core.Bool.{Bool, cond}
 use mathlib.Core.List.{List}
 use lib.Dec.{eqb}
 use lib.ListN.{length}
-use Rattle.group.specs.Layout.{paper, size}
-use Rattle.group.specs.Opening.{Answer, answer, openOf}
+use Rattle.bank.specs.Layout.{paper, size}
+use Rattle.bank.specs.Opening.{Answer, answer, openOf}
+use Rattle.group.specs.Step.{Asked}
 use Rattle.group.specs.Promises.{stepOf}
 use Rattle.settler.specs.Settling.{Ending, settleOf}
 use Rattle.day.specs.Tallies
@@ -26,8 +27,8 @@ onBytes bytes a = cond (isBank bytes) (answer (a .refusal) (bytesAfter bytes (a 
 abbrev pub OpenBytes : List ℕ → ℕ → ℕ → ℕ → List ℕ → Type 0
 OpenBytes bytes n k r bytes′ = answer r bytes′ ≡ onBytes bytes (openOf paper (wordsOf bytes) n k)
 
-abbrev pub StepBytes : List ℕ → ℕ → ℕ → ℕ → ℕ → ℕ → List ℕ → Type 0
-StepBytes bytes kind a b c r bytes′ = answer r bytes′ ≡ onBytes bytes (stepOf paper (wordsOf bytes) kind a b c)
+abbrev pub StepBytes : List ℕ → Asked → ℕ → List ℕ → Type 0
+StepBytes bytes x r bytes′ = answer r bytes′ ≡ onBytes bytes (stepOf paper (wordsOf bytes) x)
 
 -- quiet crosses as 1 or 0
 abbrev pub flag : Bool → ℕ

@@ -5,10 +5,11 @@ mod bytes;
 
 ghost use mathlib.Core.Path.{_≡_};
 ghost use Prim.Native.Nat.{_*_};
-ghost use Rattle.group.specs.Layout.{paper, size};
+ghost use Rattle.bank.specs.Layout.{paper, size};
+ghost use Rattle.group.specs.Step.{ask};
 ghost use Rattle.loargwen.specs.Face;
 ghost use Rattle.loargwen.specs.Face.{OpenBytes, StepBytes, SettleBytes, TallyBytes};
-use group::Bank;
+use bank::Bank;
 use numbers::Refusal;
 
 // How many bytes a bank has.
@@ -46,14 +47,14 @@ pub extern "C" fn loargwen_open(bank: &mut [u8], n: u16, mode: u16) -> u16
     }
     let mut words = [0u16; Bank::WORDS];
     bytes::load(bank, &mut words);
-    let r = group::open(&mut words, n, mode);
+    let r = bank::open(&mut words, n, mode);
     bytes::write_back(r, &words, bank);
     r
 }
 
 #[no_mangle]
 pub extern "C" fn loargwen_step(bank: &mut [u8], kind: u16, a: u16, b: u16, c: u16) -> u16
-    ensures { λ r. ⌜ StepBytes (now (bank .entry)) kind a b c r (now (bank .exit)) ⌝ }
+    ensures { λ r. ⌜ StepBytes (now (bank .entry)) (ask kind a b c) r (now (bank .exit)) ⌝ }
 {
     if bank.len() != BYTES {
         return Refusal::UNFIT;

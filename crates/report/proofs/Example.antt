@@ -3,9 +3,9 @@ use Prim.Native.Nat.{ℕ}
 use mathlib.Core.Path.{_≡_, refl}
 use mathlib.Core.List.{List, [], _∷_}
 use Rattle.sets.specs.Set.{has, with, without, allBelow, cut, withAll, every, within, howMany, countBelow}
-use Rattle.group.specs.Layout.{fields}
-use Rattle.group.specs.Opening.{opened, openOf}
-use Rattle.group.specs.Refusals.{enough}
+use Rattle.bank.specs.Layout.{fields}
+use Rattle.bank.specs.Opening.{opened, openOf}
+use Rattle.group.specs.Delivery.{enough}
 use Rattle.group.specs.Promises.{refusalOf, stepOf}
 use Rattle.settler.specs.Candidates.{candidates, next}
 use Rattle.settler.specs.Settling.{settleFrom, settleOf}

@@ -8,50 +8,48 @@ use native.Mathlib.Omega.{arith}
 use lib.Dec.{eqb}
 use lib.ListN.{length}
 use borrow.Author.Tests.{eq-eqb, ne-eqb}
-use Rattle.group.specs.Layout.{paper}
-use Rattle.group.specs.Fit.{fit}
-use Rattle.group.specs.Opening.{answer}
+use Rattle.bank.specs.Layout.{paper}
+use Rattle.bank.specs.Fit.{fit}
+use Rattle.bank.specs.Opening.{answer}
+use Rattle.group.specs.Step.{Asked, ask}
 use Rattle.group.specs.Promises.{stepOf}
-use Rattle.group.proofs.Rules.{pass, stop}
+use Rattle.bank.proofs.Rules.{pass, stop}
 use Rattle.group.proofs.Kept.{fit-step}
 use Rattle.settler.specs.Settling.{ending, settleOf}
 use Rattle.settler.proofs.Endings.{fit-settled}
 use Rattle.file.specs.Records.{Found, end, bad, got, settleKind, findAt}
 use Rattle.file.proofs.Finding.{finds-end, Onward, goes-onward}
-use Rattle.report.specs.Bench.{State, state, applied, onFound, unlessRefused, playFrom}
+use Rattle.report.specs.Bench.{State, state, afterSettle, afterStep, applied, onFound, unlessRefused, playFrom}
 
 -- ---- one record
 
-module _ (k : ℕ) (b : List ℕ) (kind x y z : ℕ) where
-  pub applies-settle : {r j : ℕ} {q : Bool} {c : List ℕ} → kind ≡ settleKind → ending r j q c ≡ settleOf paper b x
-      → state (k + j) r c ≡ applied k b kind x y z
+module _ (k : ℕ) (b : List ℕ) (x : Asked) where
+  pub applies-settle : {r j : ℕ} {q : Bool} {c : List ℕ} → x .kind ≡ settleKind
+      → ending r j q c ≡ settleOf paper b (x .a)
+      → state (k + j) r c ≡ applied k b x
   unfolding applied
-  applies-settle e p = rw e (ap (λ o. state (k + o .steps) (o .refusal) (o .bank)) p)
+  applies-settle e p = rw e (ap (afterSettle k) p)
 
-  module _ {r : ℕ} {c : List ℕ} (other : kind ≡ settleKind → ⊥) (p : answer r c ≡ stepOf paper b kind x y z) where
-    applies-step : state (k + cond (eqb r 0) 1 0) r c ≡ applied k b kind x y z
+  module _ {r : ℕ} {c : List ℕ} (other : x .kind ≡ settleKind → ⊥) (p : answer r c ≡ stepOf paper b x) where
+    applies-step : state (k + cond (eqb r 0) 1 0) r c ≡ applied k b x
     unfolding applied
-    applies-step =
-        ap (λ a. state (k + cond (eqb (a .refusal) 0) 1 0) (a .refusal) (a .bank)) p
-        ∙ sym (stop _ (ne-eqb _ _ other) refl)
+    applies-step = ap (afterStep k) p ∙ sym (stop _ (ne-eqb _ _ other) refl)
 
-    pub applies-accepted : r ≡ 0 → state (k + 1) 0 c ≡ applied k b kind x y z
+    pub applies-accepted : r ≡ 0 → state (k + 1) 0 c ≡ applied k b x
     applies-accepted e = rw e at applies-step
 
-    pub applies-refused : (r ≡ 0 → ⊥) → state k r c ≡ applied k b kind x y z
+    pub applies-refused : (r ≡ 0 → ⊥) → state k r c ≡ applied k b x
     applies-refused e = rw (ne-eqb r 0 e, add-zero) at applies-step
 
-  pub fit-applied : fit paper b ≡ true → fit paper (applied k b kind x y z .bank) ≡ true
+  pub fit-applied : fit paper b ≡ true → fit paper (applied k b x .bank) ≡ true
   unfolding applied
-  fit-applied f = go (eqb kind settleKind)
+  fit-applied f = go (eqb (x .kind) settleKind)
     where
       go : (t : Bool)
           → fit paper
-          (cond t (state (k + settleOf paper b x .steps) (settleOf paper b x .refusal) (settleOf paper b x .bank))
-          (state (k + cond (eqb (stepOf paper b kind x y z .refusal) 0) 1 0) (stepOf paper b kind x y z .refusal)
-          (stepOf paper b kind x y z .bank)) .bank) ≡ true
-      go true = fit-settled paper b x ∙ f
-      go false = fit-step paper b kind x y z f
+          (cond t (afterSettle k (settleOf paper b (x .a))) (afterStep k (stepOf paper b x)) .bank) ≡ true
+      go true = fit-settled paper b (x .a) ∙ f
+      go false = fit-step paper b x f
 
 -- ---- from a place on
 
@@ -67,13 +65,13 @@ module _ (s : List ℕ) where
       go : (f : Found) → Onward s i f
           → ((j k : ℕ) (b : List ℕ) → length s ≤ d + j → length s ≤ e + j → playFrom d s j k b ≡ playFrom e s j k b)
           → onFound f (state k 0 b) (λ r. state k r b)
-          (λ kind x y z j. unlessRefused (applied k b kind x y z) (λ t. playFrom d s j (t .steps) (t .bank)))
+          (λ x j. unlessRefused (applied k b x) (λ t. playFrom d s j (t .steps) (t .bank)))
           ≡ onFound f (state k 0 b) (λ r. state k r b)
-          (λ kind x y z j. unlessRefused (applied k b kind x y z) (λ t. playFrom e s j (t .steps) (t .bank)))
+          (λ x j. unlessRefused (applied k b x) (λ t. playFrom e s j (t .steps) (t .bank)))
       go end n more = refl
       go (bad r) n more = refl
       go (got kind x y z j) n more =
-          let t : State = applied k b kind x y z in
+          let t : State = applied k b (ask kind x y z) in
           ap (λ u. cond (eqb (t .refusal) 0) u t) (more j (t .steps) (t .bank) (omega arith) (omega arith))
 
   module _ (i k : ℕ) (b : List ℕ) where
@@ -88,8 +86,8 @@ module _ (s : List ℕ) where
     unfolding playFrom
     plays-bad r e = sym (one-more ∙ rw (← e))
 
-    module _ (kind x y z j : ℕ) (e : got kind x y z j ≡ findAt s i) {k′ r : ℕ} {b′ : List ℕ}
-        (p : state k′ r b′ ≡ applied k b kind x y z) where
+    module _ (x : Asked) (j : ℕ) (e : got (x .kind) (x .a) (x .b) (x .c) j ≡ findAt s i) {k′ r : ℕ} {b′ : List ℕ}
+        (p : state k′ r b′ ≡ applied k b x) where
       plays-record : playFrom (length s) s i k b
           ≡ unlessRefused (state k′ r b′) (λ t. playFrom (length s) s j (t .steps) (t .bank))
       unfolding playFrom
@@ -119,11 +117,11 @@ module _ (s : List ℕ) where
       go : (f : Found) → Kept
           → fit paper
           (onFound f (state k 0 b) (λ r. state k r b)
-          (λ kind x y z j. unlessRefused (applied k b kind x y z) (λ t. playFrom d s j (t .steps) (t .bank))) .bank)
+          (λ x j. unlessRefused (applied k b x) (λ t. playFrom d s j (t .steps) (t .bank))) .bank)
           ≡ true
       go end more = f
       go (bad r) more = f
       go (got kind x y z j) more =
-          let t : State = applied k b kind x y z in
-          let g = fit-applied k b kind x y z f in
+          let t : State = applied k b (ask kind x y z) in
+          let g = fit-applied k b (ask kind x y z) f in
           choice (eqb (t .refusal) 0) (playFrom d s j (t .steps) (t .bank)) t (more j (t .steps) (t .bank) g) g

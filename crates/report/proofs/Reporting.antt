@@ -8,13 +8,12 @@ use lib.Dec.{eqb}
 use lib.ListN.{length}
 use lib.Seq.{sets}
 use borrow.Author.Tests.{eq-eqb, ne-eqb}
-use Rattle.group.specs.Layout.{Layout, paper, size}
-use Rattle.group.specs.Fit.{Fit, fit, isSize, isMode}
-use Rattle.group.specs.Opening.{answer, opened, openOf}
-use Rattle.group.specs.Refusals.{_else_}
-use Rattle.group.proofs.Rules.{pass, stop, all-hold}
-use Rattle.group.proofs.Fitness.{fit-facts, facts-fit}
-use Rattle.group.proofs.Kept.{fit-opened}
+use Rattle.bank.specs.Layout.{Layout, paper, size}
+use Rattle.bank.specs.Fit.{Fit, fit, isSize, isMode}
+use Rattle.bank.specs.Opening.{answer, opened, openOf}
+use Rattle.bank.specs.Rules.{Rule, _else_, Holds}
+use Rattle.bank.proofs.Rules.{pass, stop, all-hold}
+use Rattle.bank.proofs.Fitness.{fit-facts, facts-fit, fit-opened}
 use Rattle.file.specs.Records.{wordAt, begun}
 use Rattle.report.specs.Text.{Prints}
 use Rattle.report.specs.Lines.{bankLines, endLine}
@@ -25,11 +24,13 @@ use Rattle.report.proofs.Playing.{fit-played}
 fit-open : (L : Layout) (b : List ℕ) (n k : ℕ) → openOf L b n k .refusal ≡ 0 → fit L (openOf L b n k .bank) ≡ true
 unfolding openOf
 fit-open L b n k e =
-    let h =
-    all-hold (eqb (length b) (size L) else 1 ∷ isSize L n else 11 ∷ isMode k else 12 ∷ []) (tt, (tt, (tt, tt))) e
-    in
-    subst (λ l. fit L l ≡ true) (sym (pass b (eq-eqb _ 0 e) refl))
-    (facts-fit L (opened L n k) (fit-opened L n k (h .1 .0) (h .1 .1 .0)))
+    subst (λ l. fit L l ≡ true) (sym (pass b (eq-eqb _ 0 e) refl)) (allowed (all-hold rules (tt, (tt, (tt, tt))) e))
+  where
+    rules : List Rule
+    rules = eqb (length b) (size L) else 1 ∷ isSize L n else 11 ∷ isMode k else 12 ∷ []
+
+    allowed : Holds rules → fit L (opened L n k) ≡ true
+    allowed (whole, (sized, (known, _))) = facts-fit L (opened L n k) (fit-opened L n k sized known)
 
 module _ (s : List ℕ) where
   pub reports-unbegun : begun s ≡ false → endLine 0 13 ≡ benchOf s

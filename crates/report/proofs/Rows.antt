@@ -10,10 +10,10 @@ use lib.Dec.{eqb}
 use lib.ListN.{length, getD, take, drop, length-take}
 use lib.Seq.{take-suc}
 use borrow.Author.Tests.{eqb-true}
-use Rattle.group.specs.Place.{logLength, log}
-use Rattle.group.specs.Layout.{paper, address, words, upFrom}
-use Rattle.group.specs.Logs.{logRefusal, usedLength, logOf}
-use Rattle.group.proofs.Asking.{log-asked}
+use Rattle.bank.specs.Place.{logLength, log}
+use Rattle.bank.specs.Layout.{paper, address, words, upFrom}
+use Rattle.lists.specs.Logs.{logRefusal, usedLength, logOf}
+use Rattle.lists.proofs.Asking.{log-asked}
 use Rattle.report.specs.Text.{decimal, Prints}
 use Rattle.report.specs.Lines.{blank, entries, lines}
 use Rattle.report.proofs.Printing.{nothing, bounded, as-text, once-more}
@@ -34,20 +34,24 @@ one-more-line f k =
     ∙ lines-from f k 0
     ∙ ap (λ j. lines f (upFrom 0 j)) (sym (add-one k))
 
--- the first k lines are printed, each of at most w bytes
-pub record Rows (w : ℕ) (f : ℕ → List ℕ) (k : ℕ) (out : List ℕ) (at r : ℕ) (out′ : List ℕ) : Type 0 where
+-- the first k of n lines are printed, each of at most w bytes
+pub record Rows (w : ℕ) (f : ℕ → List ℕ) (n k : ℕ) (out : List ℕ) (at r : ℕ) (out′ : List ℕ) : Type 0 where
+  pub few : k ≤ n
   pub printed : Prints (w * k) out at (lines f (upFrom 0 k)) r out′
 
-pub no-rows : {w : ℕ} {f : ℕ → List ℕ} {out : List ℕ} {at : ℕ} → Rows w f 0 out at at out
+pub no-rows : {w : ℕ} {f : ℕ → List ℕ} {n : ℕ} {out : List ℕ} {at : ℕ} → Rows w f n 0 out at at out
 unfolding lines
-no-rows {w} {f} {out} {at} = record { printed = rw mul-zero nothing }
+no-rows {w} {f} {n} {out} {at} = record { few = omega arith; printed = rw mul-zero nothing }
 
-module _ {w : ℕ} {f : ℕ → List ℕ} {k : ℕ} {out : List ℕ} {at r : ℕ} {out′ : List ℕ} (p : Rows w f k out at r out′) where
-  pub one-more-row : {r′ : ℕ} {out″ : List ℕ} → Prints w out′ r (f k) r′ out″ → Rows w f (k + 1) out at r′ out″
-  one-more-row q = record { printed = once-more k (p .printed) q (one-more-line f k) }
+module _ {w : ℕ} {f : ℕ → List ℕ} {n k : ℕ} {out : List ℕ} {at r : ℕ} {out′ : List ℕ}
+    (p : Rows w f n k out at r out′) where
+  pub one-more-row : {r′ : ℕ} {out″ : List ℕ} → k < n → Prints w out′ r (f k) r′ out″ → Rows w f n (k + 1) out at r′ out″
+  one-more-row h q = record { few = omega arith; printed = once-more k (p .printed) q (one-more-line f k) }
 
-  pub all-rows : (n : ℕ) {most : ℕ} → k ≡ n → w * k ≤ most → Prints most out at (lines f (upFrom 0 n)) r out′
-  all-rows n e h = as-text (bounded (p .printed) (omega arith)) (ap (λ j. lines f (upFrom 0 j)) e)
+  pub all-rows : {most : ℕ} → n ≤ k → w * k ≤ most → Prints most out at (lines f (upFrom 0 n)) r out′
+  all-rows h l =
+      let all : k ≡ n = omega arith in
+      as-text (bounded (p .printed) (omega arith)) (ap (λ j. lines f (upFrom 0 j)) all)
 
 -- ---- the entries of a log
 

@@ -6,10 +6,11 @@ use mathlib.Core.List.{List, _++_}
 use lib.Dec.{eqb}
 use lib.ListN.{length, replicate}
 use lib.Seq.{sets}
-use Rattle.group.specs.Layout.{paper, size}
-use Rattle.group.specs.Opening.{openOf}
+use Rattle.bank.specs.Layout.{paper, size}
+use Rattle.bank.specs.Opening.{Answer, openOf}
+use Rattle.group.specs.Step.{Asked, ask}
 use Rattle.group.specs.Promises.{stepOf}
-use Rattle.settler.specs.Settling.{settleOf}
+use Rattle.settler.specs.Settling.{Ending, settleOf}
 use Rattle.file.specs.Records.{Found, end, bad, got, wordAt, settleKind, findAt, begun}
 use Rattle.report.specs.Lines.{bankLines, endLine}
 
@@ -22,19 +23,23 @@ pub record State : Type 0 where
 abbrev pub state : ℕ → ℕ → List ℕ → State
 state k r b = record { steps = k; refusal = r; bank = b }
 
+-- after k steps: the settler's steps and what it left; one step more where the step is accepted
+abbrev pub afterSettle : ℕ → Ending → State
+afterSettle k e = state (k + e .steps) (e .refusal) (e .bank)
+
+abbrev pub afterStep : ℕ → Answer → State
+afterStep k a = state (k + cond (eqb (a .refusal) 0) 1 0) (a .refusal) (a .bank)
+
 -- one record: a settle, or a step of the four numbers
-unfoldable pub applied : ℕ → List ℕ → ℕ → ℕ → ℕ → ℕ → State
-applied k b kind x y z =
-    cond (eqb kind settleKind)
-    (state (k + settleOf paper b x .steps) (settleOf paper b x .refusal) (settleOf paper b x .bank))
-    (state (k + cond (eqb (stepOf paper b kind x y z .refusal) 0) 1 0) (stepOf paper b kind x y z .refusal)
-    (stepOf paper b kind x y z .bank))
+unfoldable pub applied : ℕ → List ℕ → Asked → State
+applied k b x =
+    cond (eqb (x .kind) settleKind) (afterSettle k (settleOf paper b (x .a))) (afterStep k (stepOf paper b x))
 
 -- by what stands there
-abbrev pub onFound : {A : Type 0} → Found → A → (ℕ → A) → (ℕ → ℕ → ℕ → ℕ → ℕ → A) → A
+abbrev pub onFound : {A : Type 0} → Found → A → (ℕ → A) → (Asked → ℕ → A) → A
 onFound end a f g = a
 onFound (bad r) a f g = f r
-onFound (got kind x y z j) a f g = g kind x y z j
+onFound (got kind x y z j) a f g = g (ask kind x y z) j
 
 -- the bench stops at the first refusal
 abbrev pub unlessRefused : State → (State → State) → State
@@ -45,7 +50,7 @@ unfoldable pub playFrom : ℕ → List ℕ → ℕ → ℕ → List ℕ → Stat
 playFrom zero s i k b = state k 0 b
 playFrom (suc d) s i k b =
     onFound (findAt s i) (state k 0 b) (λ r. state k r b)
-    (λ kind x y z j. unlessRefused (applied k b kind x y z) (λ t. playFrom d s j (t .steps) (t .bank)))
+    (λ x j. unlessRefused (applied k b x) (λ t. playFrom d s j (t .steps) (t .bank)))
 
 -- the bank of the bench before its open: 0 everywhere
 abbrev pub blankBank : List ℕ

@@ -3,9 +3,9 @@ use Prim.Native.Nat.{ℕ}
 use mathlib.Core.Bool.{Bool, cond}
 use mathlib.Core.List.{List, [], _∷_, _++_}
 use Rattle.sets.specs.Set.{has}
-use Rattle.group.specs.Place.{N, mode, count, up, message, sender, stamp, value, held, delivered}
-use Rattle.group.specs.Layout.{paper, words, upFrom}
-use Rattle.group.specs.Logs.{logOf}
+use Rattle.bank.specs.Place.{N, mode, count, up, message, sender, stamp, value, held, delivered}
+use Rattle.bank.specs.Layout.{paper, words, upFrom}
+use Rattle.lists.specs.Logs.{logOf}
 use Rattle.report.specs.Text.{decimal, hex}
 
 -- ---- the words of the lines, in ASCII, with the blanks around them

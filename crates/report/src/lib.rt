@@ -5,7 +5,7 @@ mod text;
 
 ghost use Prim.Native.Nat.{_≤_};
 ghost use Rattle.report.specs.Bench.{BenchPromise};
-use group::Bank;
+use bank::Bank;
 use numbers::Refusal;
 
 // No report is longer: the group 28 bytes, 32 messages 87 each, 16 controllers 376 each, the end 26, with ten digits
@@ -21,7 +21,7 @@ pub fn bench(input: &[u8], out: &mut [u8]) -> usize
         return lines::end_line(out, 0, 0, Refusal::RAGGED);
     }
     let mut bank = [0u16; Bank::WORDS];
-    let refusal = group::open(&mut bank, file::word_at(input, 4), file::word_at(input, 6));
+    let refusal = bank::open(&mut bank, file::word_at(input, 4), file::word_at(input, 6));
     if refusal != Refusal::NONE {
         return lines::end_line(out, 0, 0, refusal);
     }

@@ -1,11 +1,11 @@
 // The lines that the bench prints of a bank, which they only read. Each function prints from a place of a lent buffer
 // on, as far as the buffer reaches, and answers the place after what it printed; a local is the place where what it
 // names begins.
-ghost use Prim.Native.Nat.{_≤_, _<_};
+ghost use Prim.Native.Nat.{_≤_};
 ghost use lib.ListN.{length};
-ghost use Rattle.group.specs.Place;
-ghost use Rattle.group.specs.Layout.{paper, words, upFrom};
-ghost use Rattle.group.specs.Fit.{Fit};
+ghost use Rattle.bank.specs.Place;
+ghost use Rattle.bank.specs.Layout.{paper, words, upFrom};
+ghost use Rattle.bank.specs.Fit.{Fit};
 ghost use Rattle.report.specs.Text.{Room, Prints};
 ghost use Rattle.report.specs.Lines;
 ghost use Rattle.report.specs.Lines.{groupLine, messageHead, messageSets, messageLine};
@@ -15,44 +15,48 @@ use crate::text::number;
 use crate::text::put;
 use crate::text::put_all;
 use crate::text::set;
-use group::Bank;
+use bank::Bank;
+use bank::FULL;
 
 // N and mode.
 fn group_line(out: &mut [u8], at: usize, bank: &[u16]) -> usize
-    requires { ⌜ Room 28 at × Fit paper (now bank) ⌝ }
+    requires { ⌜ Room 28 at ⌝ }
     ensures { λ r. ⌜ Prints 28 (now (out .entry)) at (groupLine (now (bank .entry))) r (now (out .exit)) ⌝ }
 {
-    let mode = number(out, at, b"group ", bank[Bank::N]);
-    let end = number(out, mode, b" ", bank[Bank::MODE]);
+    let mode = number(out, at, b"group ", bank::word(bank, Bank::N));
+    let end = number(out, mode, b" ", bank::word(bank, Bank::MODE));
     put(out, end, b'\n')
 }
 
 // Number, sender, stamp and value.
 fn message_head(out: &mut [u8], at: usize, bank: &[u16], m: u16) -> usize
-    requires { ⌜ Room 61 at × (m < 32) × Fit paper (now bank) ⌝ }
+    requires { ⌜ Room 61 at ⌝ }
     ensures { λ r. ⌜ Prints 61 (now (out .entry)) at (messageHead (now (bank .entry)) m) r (now (out .exit)) ⌝ }
 {
-    let base = Bank::RECORDS + (m as usize) * Bank::RECORD;
     let sender = number(out, at, b"msg ", m);
-    let stamp = number(out, sender, b" from ", bank[base + Bank::SENDER]);
-    let value = number(out, stamp, b" at ", bank[base + Bank::STAMP]);
-    number(out, value, b" value ", bank[base + Bank::VALUE])
+    let stamp = number(out, sender, b" from ", bank::sender(bank, FULL, m));
+    let value = number(out, stamp, b" at ", bank::stamp(bank, FULL, m));
+    number(out, value, b" value ", bank::value(bank, FULL, m))
 }
 
 // Who holds the message and who has delivered it.
 fn message_sets(out: &mut [u8], at: usize, bank: &[u16], m: u16) -> usize
-    requires { ⌜ Room 26 at × (m < 32) × Fit paper (now bank) ⌝ }
+    requires { ⌜ Room 26 at ⌝ }
     ensures { λ r. ⌜ Prints 26 (now (out .entry)) at (messageSets (now (bank .entry)) m) r (now (out .exit)) ⌝ }
 {
-    let base = Bank::RECORDS + (m as usize) * Bank::RECORD;
-    let delivered = set(out, at, b" held ", bank[base + Bank::HELD]);
-    let end = set(out, delivered, b" delivered ", bank[base + Bank::DELIVERED]);
+    let delivered = set(out, at, b" held ", bank::held(bank, FULL, m));
+    let end = set(
+        out,
+        delivered,
+        b" delivered ",
+        bank::delivered(bank, FULL, m),
+    );
     put(out, end, b'\n')
 }
 
 // A message.
 fn message_line(out: &mut [u8], at: usize, bank: &[u16], m: u16) -> usize
-    requires { ⌜ Room 87 at × (m < 32) × Fit paper (now bank) ⌝ }
+    requires { ⌜ Room 87 at ⌝ }
     ensures { λ r. ⌜ Prints 87 (now (out .entry)) at (messageLine (now (bank .entry)) m) r (now (out .exit)) ⌝ }
 {
     let held = message_head(out, at, bank, m);
@@ -85,12 +89,12 @@ fn up_or_down(out: &mut [u8], at: usize, up: bool) -> usize
 }
 
 fn controller_line(out: &mut [u8], at: usize, bank: &[u16], i: u16) -> usize
-    requires { ⌜ Room 376 at × Fit paper (now bank) ⌝ }
+    requires { ⌜ Room 376 at ⌝ }
     ensures { λ r. ⌜ Prints 376 (now (out .entry)) at (controllerLine (now (bank .entry)) i) r (now (out .exit)) ⌝ }
 {
     let up = number(out, at, b"ctl ", i);
-    let log = up_or_down(out, up, sets::has(bank[Bank::UP], i));
-    let end = entries(out, log, group::log(bank, i));
+    let log = up_or_down(out, up, sets::has(bank::word(bank, Bank::UP), i));
+    let end = entries(out, log, lists::log(bank, i));
     put(out, end, b'\n')
 }
 
@@ -101,7 +105,7 @@ fn message_lines(out: &mut [u8], at: usize, bank: &[u16]) -> usize
         (Lines.lines (messageLine (now (bank .entry))) (upFrom 0 (words paper (now (bank .entry)) Place.count))) r
         (now (out .exit)) ⌝ }
 {
-    let count = bank[Bank::COUNT];
+    let count = bank::word(bank, Bank::COUNT);
     let mut end = at;
     let mut m = 0;
     while m < count {
@@ -118,7 +122,7 @@ fn controller_lines(out: &mut [u8], at: usize, bank: &[u16]) -> usize
         (Lines.lines (controllerLine (now (bank .entry))) (upFrom 0 (words paper (now (bank .entry)) Place.N))) r
         (now (out .exit)) ⌝ }
 {
-    let n = bank[Bank::N];
+    let n = bank::word(bank, Bank::N);
     let mut end = at;
     let mut i = 0;
     while i < n {

@@ -3,6 +3,7 @@
 ghost use mathlib.Core.Path.{_≡_};
 ghost use Prim.Native.Nat.{_+_, _≤_, _<_, _^_};
 ghost use lib.ListN.{length};
+ghost use Rattle.group.specs.Step.{ask};
 ghost use Rattle.report.specs.Bench.{state, applied, playFrom};
 use file::Found;
 use file::Record;
@@ -18,7 +19,7 @@ pub(crate) struct Played {
 fn apply(bank: &mut [u16], steps: u32, r: Record) -> Played
     requires { ⌜ steps + 65535 < 2 ^ 32 ⌝ }
     ensures { λ t. ⌜ state (t .steps) (t .refusal) (now (bank .exit))
-        ≡ applied steps (now (bank .entry)) (r .kind) (r .a) (r .b) (r .c) ⌝ }
+        ≡ applied steps (now (bank .entry)) (ask (r .kind) (r .a) (r .b) (r .c)) ⌝ }
     ensures { λ t. ⌜ t .steps ≤ steps + 65535 ⌝ }
 {
     if r.kind == file::SETTLE {

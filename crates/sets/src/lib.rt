@@ -17,8 +17,8 @@ fn bit(i: u16) -> u16
     if i < 16 { 1 << i } else { 0 }
 }
 
-// The set with controller i.
-pub fn with(w: u16, i: u16) -> u16
+// The set with controller i, as far as a word has a bit for it.
+pub fn join(w: u16, i: u16) -> u16
     ensures { λ r. ⌜ r ≡ Set.join w i ⌝ }
 {
     w | bit(i)

@@ -6,12 +6,12 @@ use mathlib.Core.Option.{Option, none, some}
 use Prim.Native.Nat.{ℕ, zero, suc, _+_, _-_, _≤_, _<_}
 use native.Mathlib.Nat.{zero-add, add-zero, suc-add, add-assoc}
 use native.Mathlib.Omega.{arith}
-use Rattle.group.specs.Layout.{Layout}
-use Rattle.group.specs.Fit.{Fit, fit}
+use Rattle.bank.specs.Layout.{Layout}
+use Rattle.bank.specs.Fit.{Fit, fit}
 use Rattle.group.specs.Step.{Step}
 use Rattle.group.specs.Promises.{after}
-use Rattle.group.proofs.Rules.{pass, stop}
-use Rattle.group.proofs.Fitness.{fit-facts, facts-fit}
+use Rattle.bank.proofs.Rules.{pass, stop}
+use Rattle.bank.proofs.Fitness.{fit-facts, facts-fit}
 use Rattle.group.proofs.Kept.{fit-after}
 use Rattle.settler.specs.Candidates.{next}
 use Rattle.settler.specs.Settling.{Ending, ending, onNext, settleFrom, settleOf}

@@ -4,17 +4,18 @@ ghost use mathlib.Core.Path.{_≡_};
 ghost use mathlib.Core.List.{map};
 ghost use mathlib.Core.Bool.{true, false};
 ghost use Prim.Native.Nat.{_<_};
-ghost use Rattle.group.specs.Place.{N, count};
-ghost use Rattle.group.specs.Layout.{paper, words};
-ghost use Rattle.group.specs.Fit.{Fit};
+ghost use Rattle.bank.specs.Place.{N, count, message};
+ghost use Rattle.bank.specs.Layout.{layout, words};
 ghost use Rattle.group.specs.Step.{detect, deliver};
 ghost use Rattle.settler.specs.Candidates;
 ghost use Rattle.settler.specs.Candidates.{below, pairs, ofMessage, firstOf, free};
-ghost use Rattle.settler.specs.Moves.{nextOf, copy, CopyKind};
+ghost use Rattle.settler.specs.Moves.{nextOf, CopyKind, copyStep, copySet};
 ghost use Rattle.settler.specs.Settling.{onNext};
-use group::Bank;
+use bank::Bank;
+use bank::Room;
 use numbers::Kind;
 use numbers::Mode;
+use numbers::Refusal;
 
 // The four numbers that ask for a step.
 pub struct Move {
@@ -31,20 +32,20 @@ pub enum Next {
 }
 
 // The first detect: a controller that is up, and the lowest that it still takes to be up and that is down.
-fn first_detect(bank: &[u16]) -> Next
-    requires { ⌜ Fit paper (now bank) ⌝ }
+fn first_detect(bank: &[u16], room: Room) -> Next
     ensures { λ r. ⌜ r
-        ≡ nextOf (firstOf (free paper (now (bank .entry))) (pairs (words paper (now (bank .entry)) N) detect)) ⌝ }
+        ≡ nextOf (firstOf (free (layout room) (now (bank .entry)))
+        (pairs (words (layout room) (now (bank .entry)) N) detect)) ⌝ }
 {
-    let n = bank[Bank::N];
-    let up = bank[Bank::UP];
-    if bank[Bank::MODE] != Mode::ALL_ACK {
+    let n = bank::word(bank, Bank::N);
+    let up = bank::word(bank, Bank::UP);
+    if bank::word(bank, Bank::MODE) != Mode::ALL_ACK {
         return Next::Quiet;
     }
     let mut i = 0;
     while i < n {
         if sets::has(up, i) {
-            let j = sets::lowest(sets::less(bank[Bank::VIEWS + i as usize], up), n);
+            let j = sets::lowest(sets::less(bank::view(bank, i), up), n);
             if j < n {
                 return Next::Take(Move {
                     kind: Kind::DETECT,
@@ -59,22 +60,30 @@ fn first_detect(bank: &[u16]) -> Next
     Next::Quiet
 }
 
-// The first copy of message m that is to be sent or received, by the kind, by a controller that is up. The set
-// words of that kind begin at `field` in the record.
-fn first_copy(bank: &[u16], kind: u16, field: usize, m: u16) -> Next
-    requires { ⌜ Fit paper (now bank) ⌝ }
-    requires { ⌜ (m < words paper (now bank) count) × CopyKind kind field ⌝ }
-    ensures { λ r. ⌜ r
-        ≡ nextOf (firstOf (free paper (now (bank .entry)))
-        (pairs (words paper (now (bank .entry)) N) (copy kind m))) ⌝ }
+// The set word that decides a copy of message m at controller i: to whom it must send, or from whom one is on its way.
+fn copies(bank: &[u16], room: Room, kind: u16, m: u16, i: u16) -> u16
+    ensures { λ r. ⌜ r ≡ words (layout room) (now (bank .entry)) (message m (copySet kind i)) ⌝ }
 {
-    let n = bank[Bank::N];
-    let up = bank[Bank::UP];
-    let a = Bank::RECORDS + (m as usize) * Bank::RECORD;
+    if kind == Kind::SEND {
+        bank::unsent(bank, room, m, i)
+    } else {
+        bank::in_flight(bank, room, m, i)
+    }
+}
+
+// The first copy of message m that is to be sent or received, by the kind, by a controller that is up.
+fn first_copy(bank: &[u16], room: Room, kind: u16, m: u16) -> Next
+    requires { ⌜ (m < words (layout room) (now bank) count) × CopyKind kind ⌝ }
+    ensures { λ r. ⌜ r
+        ≡ nextOf (firstOf (free (layout room) (now (bank .entry)))
+        (pairs (words (layout room) (now (bank .entry)) N) (copyStep kind m))) ⌝ }
+{
+    let n = bank::word(bank, Bank::N);
+    let up = bank::word(bank, Bank::UP);
     let mut i = 0;
     while i < n {
         if sets::has(up, i) {
-            let j = sets::lowest(bank[a + (field + i as usize)], n);
+            let j = sets::lowest(copies(bank, room, kind, m, i), n);
             if j < n {
                 return Next::Take(Move {
                     kind,
@@ -89,45 +98,15 @@ fn first_copy(bank: &[u16], kind: u16, field: usize, m: u16) -> Next
     Next::Quiet
 }
 
-// Whether controller i may deliver message m.
-fn may_deliver(bank: &[u16], i: u16, m: u16) -> bool
-    requires { ⌜ Fit paper (now bank) ⌝ }
-    requires { ⌜ (i < words paper (now bank) N) × (m < words paper (now bank) count) ⌝ }
-    ensures { λ r. ⌜ r ≡ free paper (now (bank .entry)) (deliver i m) ⌝ }
-{
-    let a = Bank::RECORDS + (m as usize) * Bank::RECORD;
-    if !sets::has(bank[Bank::UP], i) {
-        return false;
-    }
-    if !sets::has(bank[a + Bank::HELD], i) {
-        return false;
-    }
-    if sets::has(bank[a + Bank::DELIVERED], i) {
-        return false;
-    }
-    if bank[Bank::LENGTHS + i as usize] >= bank[Bank::COUNT] {
-        return false;
-    }
-    let trusted = bank[Bank::VIEWS + i as usize];
-    group::enough(
-        bank[Bank::MODE],
-        bank[Bank::N],
-        trusted,
-        bank[a + (Bank::ACKED + i as usize)],
-    )
-}
-
-fn first_deliver(bank: &[u16], m: u16) -> Next
-    requires { ⌜ Fit paper (now bank) ⌝ }
-    requires { ⌜ m < words paper (now bank) count ⌝ }
+fn first_deliver(bank: &[u16], room: Room, m: u16) -> Next
     ensures { λ r. ⌜ r
-        ≡ nextOf (firstOf (free paper (now (bank .entry)))
-        (map (λ i. deliver i m) (below (words paper (now (bank .entry)) N)))) ⌝ }
+        ≡ nextOf (firstOf (free (layout room) (now (bank .entry)))
+        (map (λ i. deliver i m) (below (words (layout room) (now (bank .entry)) N)))) ⌝ }
 {
-    let n = bank[Bank::N];
+    let n = bank::word(bank, Bank::N);
     let mut i = 0;
     while i < n {
-        if may_deliver(bank, i, m) {
+        if group::delivery_refusal(bank, room, i, m) == Refusal::NONE {
             return Next::Take(Move {
                 kind: Kind::DELIVER,
                 a: i,
@@ -141,36 +120,35 @@ fn first_deliver(bank: &[u16], m: u16) -> Next
 }
 
 // Of one message: its sends, then its receipts, then its deliveries.
-fn first_of_message(bank: &[u16], m: u16) -> Next
-    requires { ⌜ Fit paper (now bank) ⌝ }
-    requires { ⌜ m < words paper (now bank) count ⌝ }
+fn first_of_message(bank: &[u16], room: Room, m: u16) -> Next
+    requires { ⌜ m < words (layout room) (now bank) count ⌝ }
     ensures { λ r. ⌜ r
-        ≡ nextOf (firstOf (free paper (now (bank .entry))) (ofMessage (words paper (now (bank .entry)) N) m)) ⌝ }
+        ≡ nextOf (firstOf (free (layout room) (now (bank .entry)))
+        (ofMessage (words (layout room) (now (bank .entry)) N) m)) ⌝ }
 {
-    let sent = first_copy(bank, Kind::SEND, Bank::UNSENT, m);
+    let sent = first_copy(bank, room, Kind::SEND, m);
     if let Next::Take(s) = sent {
         return Next::Take(s);
     }
-    let received = first_copy(bank, Kind::RECEIVE, Bank::IN_FLIGHT, m);
+    let received = first_copy(bank, room, Kind::RECEIVE, m);
     if let Next::Take(s) = received {
         return Next::Take(s);
     }
-    first_deliver(bank, m)
+    first_deliver(bank, room, m)
 }
 
 // Detects first, then the messages in turn.
-pub(crate) fn first_step(bank: &[u16]) -> Next
-    requires { ⌜ Fit paper (now bank) ⌝ }
-    ensures { λ r. ⌜ r ≡ nextOf (Candidates.next paper (now (bank .entry))) ⌝ }
+pub(crate) fn first_step(bank: &[u16], room: Room) -> Next
+    ensures { λ r. ⌜ r ≡ nextOf (Candidates.next (layout room) (now (bank .entry))) ⌝ }
 {
-    let detected = first_detect(bank);
+    let detected = first_detect(bank, room);
     if let Next::Take(s) = detected {
         return Next::Take(s);
     }
-    let count = bank[Bank::COUNT];
+    let count = bank::word(bank, Bank::COUNT);
     let mut m = 0;
     while m < count {
-        let of_message = first_of_message(bank, m);
+        let of_message = first_of_message(bank, room, m);
         if let Next::Take(s) = of_message {
             return Next::Take(s);
         }
@@ -179,10 +157,9 @@ pub(crate) fn first_step(bank: &[u16]) -> Next
     Next::Quiet
 }
 
-pub(crate) fn is_quiet(bank: &[u16]) -> bool
-    requires { ⌜ Fit paper (now bank) ⌝ }
-    ensures { λ r. ⌜ r ≡ onNext (Candidates.next paper (now (bank .entry))) true (λ _. false) ⌝ }
+pub(crate) fn is_quiet(bank: &[u16], room: Room) -> bool
+    ensures { λ r. ⌜ r ≡ onNext (Candidates.next (layout room) (now (bank .entry))) true (λ _. false) ⌝ }
 {
-    let left = first_step(bank);
+    let left = first_step(bank, room);
     if let Next::Quiet = left { true } else { false }
 }

@@ -9,12 +9,12 @@ use native.Mathlib.Numerals.{add-one}
 use native.Mathlib.Omega.{arith}
 use lib.ListN.{length, getD, drop, drop-of-length-le}
 use lib.Seq.{drop-cons}
-use Rattle.group.specs.Layout.{Layout}
-use Rattle.group.specs.Fit.{fit}
-use Rattle.group.specs.Opening.{Answer, answer}
-use Rattle.group.specs.Promises.{stepOf}
-use Rattle.group.specs.Lists.{outcome, runFrom, runOf}
-use Rattle.group.proofs.StepByStep.{run-begins, run-more, run-stop}
+use Rattle.bank.specs.Layout.{Layout}
+use Rattle.bank.specs.Fit.{fit}
+use Rattle.group.specs.Step.{Asked, ask}
+use Rattle.group.specs.Promises.{StepPromise}
+use Rattle.lists.specs.Lists.{outcome, runFrom, runOf}
+use Rattle.lists.proofs.StepByStep.{run-begins, run-more, run-stop}
 use Rattle.step_records.specs.declared.Step.{Step}
 use Rattle.step_records.specs.Records.{flat}
 
@@ -24,9 +24,9 @@ unfolding flat
 flat-whole [] = refl
 flat-whole (s ∷ ss) = omega (arith, flat-whole ss)
 
--- the step that a record asks for
-abbrev pub stepBy : Layout → List ℕ → Step → Answer
-stepBy L b s = stepOf L b (s .kind) (s .a) (s .b) (s .c)
+-- the numbers by which a record asks for a step
+abbrev pub askedBy : Step → Asked
+askedBy s = ask (s .kind) (s .a) (s .b) (s .c)
 
 -- the records from the i-th on, as words
 abbrev fromHere : List Step → ℕ → Step → List ℕ
@@ -38,7 +38,7 @@ next-record ss i d h = rw (add-one, drop-cons ss i d)
 
 -- the step of record i gave back r and left the words b′: its refusal ends the list, or the next record is at hand
 module _ (L : Layout) (b : List ℕ) (ss : List Step) (i : ℕ) (d : Step) (r : ℕ) (b′ : List ℕ) (h : i < length ss)
-    (p : answer r b′ ≡ stepBy L b (getD ss i d)) where
+    (p : StepPromise L b (askedBy (getD ss i d)) r b′) where
   pub records-stop : (r ≡ 0 → ⊥) → outcome i r b′ ≡ runFrom L i b (flat (drop i ss))
   records-stop z = rw (next-record ss i d) (run-stop L i b (fromHere ss i d) 0 r b′ (omega arith) p z)
 

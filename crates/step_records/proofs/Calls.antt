@@ -1,4 +1,4 @@
--- For the walk by hand: the calls of `group::fit` and `group::step`, each as one rule. The bank is lent for the call
+-- For the walk by hand: the calls of `bank::fit` and `group::step`, each as one rule. The bank is lent for the call
 -- (`Lending`), the callee's contract is cited, and the bank comes back with what the contract promises of it.
 -- Of the two functions nothing is used but that they meet their contracts.
 use mathlib.Core.Path.{_≡_, ap}
@@ -36,17 +36,17 @@ use denote.Triple.Statement.{Contract, Triple}
 use denote.Triple.Clauses.{lasts}
 use denote.Triple.Call.{calls-at}
 use borrow.Rule.Slice.Relend.{setName}
-use Rattle.group.specs.Layout.{paper}
-use Rattle.group.specs.Fit as Fitness
-use Rattle.group.specs.Opening.{answer}
-use Rattle.group.proofs.fit as fit
-use Rattle.group.proofs.fit.Symbol as fit-def
+use Rattle.bank.specs.Layout.{paper}
+use Rattle.bank.specs.Fit as Fitness
+use Rattle.bank.proofs.fit as fit
+use Rattle.bank.proofs.fit.Symbol as fit-def
+use Rattle.group.specs.Promises.{StepPromise}
 use Rattle.group.proofs.step as step
 use Rattle.group.proofs.step.Symbol as step-def
 use Rattle.step_records.specs.declared.Step.{Step}
 use Rattle.step_records.proofs.Step as S
 use Rattle.step_records.proofs.Step.Laws as S′
-use Rattle.step_records.proofs.ByRecord.{stepBy}
+use Rattle.step_records.proofs.ByRecord.{askedBy}
 use Rattle.step_records.proofs.Lending.{Mut, alive, valued, lends-mut, mut-back, lends-shr, shr-back}
 use Rattle.step_records.proofs.Reading.{Read}
 
@@ -56,7 +56,7 @@ pub record Stepped (l : List ℕ) (s : Step) (w : Val) (r : ℕ) (zs : List ℕ)
   pub value : w ≡ vint w16 r
   pub fits : Fits w16 r
   pub as-long : length zs ≡ length l
-  pub promise : answer r zs ≡ stepBy paper l s
+  pub promise : StepPromise paper l (askedBy s) r zs
 
 -- the machine values of a number, and of a record's four numbers as parameters
 abbrev number : ℕ → List Val
@@ -142,10 +142,10 @@ module _ {M : Type 1} {𝓤 : URA M} {H : Heap 𝓤} {A : Atoms 𝓤} {K : Type 
       move t (1 ∷ 0 ∷ []) $ fjoin t $ move t (1 ∷ 0 ∷ []) $
       calls-by t fm (StepContract 𝓤 H A mem run)
       (((ν ∷ [], tt), (fullShare, tt), tt, arguments, (v ∷ [], numbers s)), tt) ν _
-      u16 (lasts step.ended (ν ∷ [], tt) arguments) (λ r zs. answer r (zs .0) ≡ stepBy paper (x .now) s)
-      met (id⊢ 𝓤 _) (λ w. id⊢ 𝓤 _) (operands _ _) (λ w r zs is e.
+      u16 (lasts step.ended (ν ∷ [], tt) arguments) (λ r (zs, _). StepPromise paper (x .now) (askedBy s) r zs)
+      met (id⊢ 𝓤 _) (λ w. id⊢ 𝓤 _) (operands _ _) (λ w r (zs, _) (same, fits) promise.
       move t (1 ∷ []) $ fsplit t $ fsplit t $
       -- [the bank's last words; that they are as many; nothing of the numbers; the token; what is kept]
-      move t (1 ∷ 2 ∷ []) $ drop t $ drop t $ move t (1 ∷ 2 ∷ []) $ mut-back t tt u16 x (zs .0) (λ as-long.
-      k w r (zs .0)
-      (record { value = ap only (is .0); fits = record { fits = is .1 }; as-long = as-long; promise = e }))))
+      move t (1 ∷ 2 ∷ []) $ drop t $ drop t $ move t (1 ∷ 2 ∷ []) $ mut-back t tt u16 x zs (λ as-long.
+      k w r zs
+      (record { value = ap only same; fits = record { fits = fits }; as-long = as-long; promise = promise }))))

@@ -29,6 +29,13 @@ Mut R κ = MutSlice erased κ R .own
 abbrev pub Shr : (R : RattleType) → Lft → RefT (List (R .Denot)) → Fml
 Shr R κ = ShrSlice erased κ R .own
 
+-- where its elements lie
+abbrev pub block : {X : Type 0} → RefT X → ℕ
+block x = x .ptr .0
+
+abbrev pub offset : {X : Type 0} → RefT X → ℕ
+offset x = x .ptr .1
+
 module _ {M : Type 1} {𝓤 : URA M} {H : Heap 𝓤} {A : Atoms 𝓤} {K : Type 0} {W : Given 𝓤 H A} {Γ : List (Item 𝓤)}
     {G : Goal 𝓤 H} where
   -- the machine value is added, as a callee or a caller wants it, and taken off
@@ -47,10 +54,10 @@ alive ν = flft (ν ∷ []) fullShare
 -- what the holder of the slice x keeps while it is lent on for the lifetime ν, as `&mut` under the name δ, and as `&`
 module _ (R : RattleType) (κ : Lft) (q : Share) (x : RefT (List (R .Denot))) (ν : ℕ) where
   abbrev pub KeptMut : GName → Fml
-  KeptMut δ = keptF R κ q (ν ∷ []) (x .name) δ (x .now) (x .ptr .0) (x .ptr .1)
+  KeptMut δ = keptF R κ q (ν ∷ []) (x .name) δ (x .now) (block x) (offset x)
 
   abbrev pub KeptShr : Fml
-  KeptShr = keptS R κ q (ν ∷ []) (x .name) (x .now) (x .ptr .0) (x .ptr .1)
+  KeptShr = keptS R κ q (ν ∷ []) (x .name) (x .now) (block x) (offset x)
 
 -- it is lent on for a new lifetime, and comes back once that is over
 module _ {M : Type 1} {𝓤 : URA M} {H : Heap 𝓤} {A : Atoms 𝓤} {K : Type 0} {W : Given 𝓤 H A} {Γ : List (Item 𝓤)}
@@ -61,7 +68,7 @@ module _ {M : Type 1} {𝓤 : URA M} {H : Heap 𝓤} {A : Atoms 𝓤} {K : Type 
   lends-mut k =
       lft-new t z (λ ν. move t (1 ∷ 2 ∷ []) $
       use2 W (later (some (λ (δ : GName). ‵ (Mut R (ν ∷ []) (setName δ x)) ⊛ ‵ (KeptMut R κ q x ν δ))))
-      (sl-relend 𝓤 H A W R κ q (ν ∷ []) (x .ptr .0) (x .ptr .1) (x .name) (x .now)) $ await t z $
+      (sl-relend 𝓤 H A W R κ q (ν ∷ []) (block x) (offset x) (x .name) (x .now)) $ await t z $
       pick t (λ δ. split t $ move t (2 ∷ []) $ k ν δ))
 
   pub mut-back : {ν : ℕ} {δ : GName} (zs : List (R .Denot))
@@ -69,7 +76,7 @@ module _ {M : Type 1} {𝓤 : URA M} {H : Heap 𝓤} {A : Atoms 𝓤} {K : Type 
       → Seq K W (‵ (alive ν) ∷ ‵ (KeptMut R κ q x ν δ) ∷ ‵ (finally R δ zs) ∷ Γ) G
   mut-back {ν} {δ} zs k =
       lft-end t z $ use3 W (later (given (length zs ≡ length (x .now)) (‵ (Mut R κ (at-last x zs)) ⊛ ‵ (flft κ q))))
-      (sl-relent-backˡ 𝓤 H A W R κ q (ν ∷ []) (x .ptr .0) (x .ptr .1) (x .name) δ (x .now) zs) $ await t z $
+      (sl-relent-backˡ 𝓤 H A W R κ q (ν ∷ []) (block x) (offset x) (x .name) δ (x .now) zs) $ await t z $
       learn t (λ as-long. split t $ k as-long)
 
   pub lends-shr : ((ν : ℕ) (δ : GName) → Seq K W
@@ -78,11 +85,11 @@ module _ {M : Type 1} {𝓤 : URA M} {H : Heap 𝓤} {A : Atoms 𝓤} {K : Type 
   lends-shr k =
       lft-new t z (λ ν. move t (1 ∷ 2 ∷ []) $
       use2 W (later (some (λ (δ : GName). ‵ (Shr R (ν ∷ []) (setName δ x)) ⊛ ‵ (KeptShr R κ q x ν))))
-      (sl-reshare 𝓤 H A W R κ q (ν ∷ []) (x .ptr .0) (x .ptr .1) (x .name) (x .now)) $ await t z $
+      (sl-reshare 𝓤 H A W R κ q (ν ∷ []) (block x) (offset x) (x .name) (x .now)) $ await t z $
       pick t (λ δ. split t $ move t (2 ∷ []) $ k ν δ))
 
   pub shr-back : {ν : ℕ}
       → Step K W (‵ (Mut R κ x) ∷ ‵ (flft κ q) ∷ Γ) G (‵ (alive ν) ∷ ‵ (KeptShr R κ q x ν) ∷ Γ) G
   shr-back {ν} = step (λ s.
       lft-end t z $ use2 W (later (‵ (Mut R κ x) ⊛ ‵ (flft κ q)))
-      (sl-reshare-back 𝓤 H A W R κ q (ν ∷ []) (x .ptr .0) (x .ptr .1) (x .name) (x .now)) $ await t z $ split t $ s)
+      (sl-reshare-back 𝓤 H A W R κ q (ν ∷ []) (block x) (offset x) (x .name) (x .now)) $ await t z $ split t $ s)

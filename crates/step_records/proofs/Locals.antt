@@ -76,17 +76,27 @@ module _ {M : Type 1} {𝓤 : URA M} where
   kept zero (full {τ} {b} p) = vacant τ b (kept zero p)
   kept (suc n) (full {τ} {b} {v} p) = filled τ b v (kept n p)
 
-  -- the cell of local k, with a value and with room for one
+  -- local k: its type and its block
   module _ (H : Heap 𝓤) (E : Env 𝓤 H) (k : ℕ) where
+    abbrev pub typeOf : Ty
+    typeOf = spotOf 𝓤 H E k .0
+
+    abbrev pub blockOf : ℕ
+    blockOf = spotOf 𝓤 H E k .1
+
+    -- its cell, with a value, of which a share is had or all, and with room for one
+    abbrev pub Cell : Share → Val → Item 𝓤
+    Cell q v = ‵ (fat q typeOf blockOf zero v)
+
     abbrev pub FullCell : Val → Item 𝓤
-    FullCell v = ‵ (fat fullShare (spotOf 𝓤 H E k .0) (spotOf 𝓤 H E k .1) zero v)
+    FullCell v = Cell fullShare v
 
     abbrev pub EmptyCell : Item 𝓤
-    EmptyCell = ‵ (froom (spotOf 𝓤 H E k .0) (spotOf 𝓤 H E k .1) zero)
+    EmptyCell = ‵ (froom typeOf blockOf zero)
 
     -- a value for it
     abbrev pub Apt : Val → Type 0
-    Apt v = T (hasTy (spotOf 𝓤 H E k .0) v) × WT v
+    Apt v = T (hasTy typeOf v) × WT v
 
   module _ (H : Heap 𝓤) (A : Atoms 𝓤) where
     swapped : (Δ Γ : List (Item 𝓤)) → ent 𝓤 (⋆ 𝓤 H A (Δ ++ Γ)) (⋆ 𝓤 H A (Γ ++ Δ))
@@ -155,20 +165,20 @@ module _ {M : Type 1} {𝓤 : URA M} {H : Heap 𝓤} {A : Atoms 𝓤} {K : Type 
   module _ {Γ : List (Item 𝓤)} {E : Env 𝓤 H} where
     -- the value of local k, which stands at n
     pub var : K → (n : ℕ) {k : ℕ} {q : Share} {v : Val}
-        → nth 𝓤 H A n Γ ≡ ‵ (fat q (spotOf 𝓤 H E k .0) (spotOf 𝓤 H E k .1) zero v) → Opd K W Γ E (copy (place k [])) v
+        → nth 𝓤 H A n Γ ≡ Cell H E k q v → Opd K W Γ E (copy (place k [])) v
     var t n e = load t (from t (stop t)) (look t n e)
 
     -- field j of the value of local k
     pub part-of : K → (n : ℕ) {j k : ℕ} {q : Share} {ν : Sym} {τs : Tys} {vs : Vals} {τ : Ty} {d : ℕ}
-        → nth 𝓤 H A n Γ ≡ ‵ (fat q (tyStruct ν τs) (spotOf 𝓤 H E k .1) zero (vstruct vs))
-        → fieldOf (spotOf 𝓤 H E k .0) j ≡ some (τ, d) → fieldAt zero τs j ≡ some (τ, d)
+        → nth 𝓤 H A n Γ ≡ ‵ (fat q (tyStruct ν τs) (blockOf H E k) zero (vstruct vs))
+        → fieldOf (typeOf H E k) j ≡ some (τ, d) → fieldAt zero τs j ≡ some (τ, d)
         → Opd K W Γ E (copy (place k (field j ∷ []))) (getV vs j)
     part-of t n {j} e f g = load t (from t (fld t f (stop t))) (reads-field t n j e g)
 
     -- where the elements of the slice in local k lie
     pub start-of : K → (n : ℕ) {k : ℕ} {q : Share} {ν : Sym} {τs : Tys} {b o : ℕ} {vs : Vals} {τ ρ : Ty} {d : ℕ}
-        → nth 𝓤 H A n Γ ≡ ‵ (fat q (tyStruct ν τs) (spotOf 𝓤 H E k .1) zero (vstruct (vcons (vptr b o) vs)))
-        → fieldOf (spotOf 𝓤 H E k .0) toElements ≡ some (τ, d) → fieldAt zero τs toElements ≡ some (τ, d)
+        → nth 𝓤 H A n Γ ≡ ‵ (fat q (tyStruct ν τs) (blockOf H E k) zero (vstruct (vcons (vptr b o) vs)))
+        → fieldOf (typeOf H E k) toElements ≡ some (τ, d) → fieldAt zero τs toElements ≡ some (τ, d)
         → Rv K W Γ E (addrOf (place k (field toElements ∷ deref ρ ∷ []))) (vptr b o)
     start-of t n e f g = addr t (from t (fld t f (hop t (reads-field t n toElements e g) (stop t))))
 

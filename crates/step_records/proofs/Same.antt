@@ -8,27 +8,28 @@ use mathlib.Core.Option.{Option, none, some}
 use Prim.Native.Nat.{ℕ, _+_}
 use native.Mathlib.Omega.{arith}
 use lib.Dec.{eqb}
-use Rattle.group.specs.Layout.{Layout, paper, words}
-use Rattle.group.specs.Fit.{fit}
+use Rattle.bank.specs.Layout.{Layout, paper, words}
+use Rattle.bank.specs.Fit.{fit}
+use Rattle.bank.proofs.Rules as Rules
 use Rattle.group.specs.Step as Steps
 use Rattle.group.specs.Refusals.{rules}
 use Rattle.group.specs.Promises.{askedRefusal, refusalOf, stepOf}
-use Rattle.group.specs.Lists.{Outcome, outcome, runFrom, runOf, RunPromise}
-use Rattle.group.proofs.Determined.{run-determined}
-use Rattle.group.proofs.Rules as Rules
-use Rattle.group.proofs.StepByStep.{run-unfit}
+use Rattle.lists.specs.Lists.{Outcome, outcome, runFrom, runOf, RunPromise}
+use Rattle.lists.proofs.Determined.{run-determined}
+use Rattle.group.proofs.StepRules.{rules-numbered}
+use Rattle.lists.proofs.StepByStep.{run-unfit}
 use Rattle.step_records.specs.declared.Step.{Step}
 use Rattle.step_records.specs.Records.{flat, StepsPromise}
-use Rattle.step_records.proofs.ByRecord.{records-begin}
+use Rattle.step_records.proofs.ByRecord.{askedBy, records-begin}
 
 -- on the same steps both forms give the same number of accepted steps, the same refusal and the same bank
 pub same-as-flat : (b : List ℕ) (ss : List Step) (n k r s : ℕ) (c d : List ℕ) → StepsPromise b ss n r c
-    → RunPromise b (flat ss) k s d → (n ≡ k) × (r ≡ s) × (c ≡ d)
-same-as-flat b ss n k r s c d e f = run-determined b (flat ss) e f
+    → RunPromise paper b (flat ss) k s d → (n ≡ k) × (r ≡ s) × (c ≡ d)
+same-as-flat b ss n k r s c d e f = run-determined paper b (flat ss) e f
 
 pub steps-determined : (b : List ℕ) (ss : List Step) (n k r s : ℕ) (c d : List ℕ) → StepsPromise b ss n r c
     → StepsPromise b ss k s d → (n ≡ k) × (r ≡ s) × (c ≡ d)
-steps-determined b ss n k r s c d e f = run-determined b (flat ss) e f
+steps-determined b ss n k r s c d e f = run-determined paper b (flat ss) e f
 
 abbrev NotRagged : ℕ → Type 0
 NotRagged r = r ≡ 13 → ⊥
@@ -38,12 +39,12 @@ either true o p h k = h
 either false o p h k = k
 
 module _ (L : Layout) where
-  step-not-ragged : (b : List ℕ) (kind x y z : ℕ) → NotRagged (refusalOf L b kind x y z)
+  step-not-ragged : (b : List ℕ) (x : Steps.Asked) → NotRagged (refusalOf L b x)
   unfolding refusalOf
-  step-not-ragged b kind x y z = go (fit L b) (Steps.asked kind x y z)
+  step-not-ragged b x = go (fit L b) (Steps.asked x)
     where
       go : (t : Bool) (o : Option Steps.Step) → NotRagged (cond t (askedRefusal L b o) 1)
-      go true (some s) = Rules.never-ragged (rules L (words L b) s) (Rules.rules-numbered L b s)
+      go true (some s) = Rules.never-ragged (rules L (words L b) s) (rules-numbered L b s)
       go true none = omega arith
       go false o = omega arith
 
@@ -51,10 +52,10 @@ module _ (L : Layout) where
   unfolding flat runFrom
   run-not-ragged n b [] = omega arith
   run-not-ragged n b (s ∷ ss) =
-      let r = refusalOf L b (s .kind) (s .a) (s .b) (s .c) in
-      let after = stepOf L b (s .kind) (s .a) (s .b) (s .c) .bank in
+      let r = refusalOf L b (askedBy s) in
+      let after = stepOf L b (askedBy s) .bank in
       either (eqb r 0) (runFrom L (n + 1) after (flat ss)) (outcome n r b) (run-not-ragged (n + 1) after ss)
-      (step-not-ragged b (s .kind) (s .a) (s .b) (s .c))
+      (step-not-ragged b (askedBy s))
 
 -- 13 does not arise: a record is whole, and no step is refused by that number
 pub never-ragged : (b : List ℕ) (ss : List Step) (n r : ℕ) (c : List ℕ) → StepsPromise b ss n r c → r ≡ 13 → ⊥

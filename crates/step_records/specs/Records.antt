@@ -2,8 +2,8 @@
 use Prim.Native.Nat.{ℕ}
 use mathlib.Core.Path.{_≡_}
 use mathlib.Core.List.{List, [], _∷_}
-use Rattle.group.specs.Layout.{paper}
-use Rattle.group.specs.Lists.{outcome, runOf}
+use Rattle.bank.specs.Layout.{paper}
+use Rattle.lists.specs.Lists.{outcome, runOf}
 use Rattle.step_records.specs.declared.Step.{Step}
 
 -- the words of the records, one after another

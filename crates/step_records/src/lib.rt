@@ -1,6 +1,6 @@
 // A Rattle caller's own list of step records, walked by one thin function over the group's single step.
 ghost use Rattle.step_records.specs.Records.{StepsPromise};
-use group::Ran;
+use lists::Ran;
 use numbers::Refusal;
 
 // One step: its kind and three numbers.
@@ -18,7 +18,7 @@ pub extern "C" fn run_steps(bank: &mut [u16], steps: &[Step]) -> Ran
     ensures { λ r. ⌜ StepsPromise (now (bank .entry)) (now (steps .entry)) (r .accepted) (r .refusal)
         (now (bank .exit)) ⌝ }
 {
-    if !group::fit(bank) {
+    if !bank::fit(bank) {
         return Ran {
             accepted: 0,
             refusal: Refusal::UNFIT,

@@ -4,8 +4,8 @@ use mathlib.Core.Path.{_≡_}
 use mathlib.Core.List.{List}
 use lib.ListN.{length}
 use lib.Seq.{sets}
-use Rattle.group.specs.Layout.{paper}
-use Rattle.group.specs.Logs.{logOf}
+use Rattle.bank.specs.Layout.{paper}
+use Rattle.lists.specs.Logs.{logOf}
 
 -- the words of the one stand in the other from its start on, as far as it reaches; the rest of it stays
 abbrev pub Copied : List ℕ → List ℕ → List ℕ → Type 0

@@ -1,32 +1,34 @@
 // The calls that the C face has not, on words, for the tests: lists, what refuses a step, and the two questions about
 // a log. Each is thin over the group's call. No part of the product: nothing installs its archive.
+ghost use Rattle.bank.specs.Layout.{paper};
+ghost use Rattle.group.specs.Step.{ask};
 ghost use Rattle.group.specs.Promises.{RefusalPromise};
-ghost use Rattle.group.specs.Lists.{RunPromise};
-ghost use Rattle.group.specs.Logs.{LengthPromise};
+ghost use Rattle.lists.specs.Lists.{RunPromise};
+ghost use Rattle.lists.specs.Logs.{LengthPromise};
 ghost use Rattle.word_face.specs.LogCopy.{Copied, LogCopyPromise};
-use group::LogLength;
-use group::Ran;
+use lists::LogLength;
+use lists::Ran;
 
 #[no_mangle]
 pub extern "C" fn words_run(bank: &mut [u16], steps: &[u16]) -> Ran
-    ensures { λ r. ⌜ RunPromise (now (bank .entry)) (now (steps .entry)) (r .accepted) (r .refusal) (now
+    ensures { λ r. ⌜ RunPromise paper (now (bank .entry)) (now (steps .entry)) (r .accepted) (r .refusal) (now
         (bank .exit)) ⌝ }
 {
-    group::run(bank, steps)
+    lists::run(bank, steps)
 }
 
 #[no_mangle]
 pub extern "C" fn words_refusal(bank: &[u16], kind: u16, a: u16, b: u16, c: u16) -> u16
-    ensures { λ r. ⌜ RefusalPromise (now (bank .entry)) kind a b c r ⌝ }
+    ensures { λ r. ⌜ RefusalPromise paper (now (bank .entry)) (ask kind a b c) r ⌝ }
 {
     group::refusal(bank, kind, a, b, c)
 }
 
 #[no_mangle]
 pub extern "C" fn words_log_length(bank: &[u16], who: u16) -> LogLength
-    ensures { λ r. ⌜ LengthPromise (now (bank .entry)) who (r .refusal) (r .length) ⌝ }
+    ensures { λ r. ⌜ LengthPromise paper (now (bank .entry)) who (r .refusal) (r .length) ⌝ }
 {
-    group::log_length(bank, who)
+    lists::log_length(bank, who)
 }
 
 // Copies the used part of the log into the lent buffer, as far as it reaches; answers that part's length.
@@ -34,7 +36,7 @@ pub extern "C" fn words_log_length(bank: &[u16], who: u16) -> LogLength
 pub extern "C" fn words_log(bank: &[u16], who: u16, out: &mut [u16]) -> usize
     ensures { λ r. ⌜ LogCopyPromise (now (bank .entry)) who (now (out .entry)) r (now (out .exit)) ⌝ }
 {
-    let log = group::log(bank, who);
+    let log = lists::log(bank, who);
     copy(log, out);
     log.len()
 }

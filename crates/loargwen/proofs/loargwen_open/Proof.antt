@@ -1,20 +1,34 @@
--- loargwen_open: the group's answer on the bank that the bytes stand for; the bytes are written where it is 0.
-use Rattle.group.specs.Layout.{paper}
-use Rattle.group.specs.Opening.{answer, openOf}
+-- loargwen_open: the opening's answer on the bank that the bytes stand for; the bytes are written where it is 0.
+use Rattle.bank.specs.Layout.{paper}
+use Rattle.bank.specs.Opening.{answer, openOf}
 use Rattle.loargwen.specs.Bytes.{wordsOf}
 use Rattle.loargwen.proofs.Answers.{Called, no-bank, answered}
 use borrow.Author.Needs.{needs}
 use Rattle.loargwen.proofs.loargwen_open.Statement.{statement}
 use Rattle.loargwen.proofs.loargwen_open.Tie as tie
 
--- what the group answers is its answer on the bank that the bytes stand for
-called : (c : tie.After-open) → let a = c .before .before .before .before .before .before .before .before .args in
+-- from where the opening has answered: where the words were loaded, the test of the length before it, the beginning
+abbrev loaded : tie.After-open → tie.After-load
+loaded c = c .before .before .before
+
+abbrev test : tie.After-open → tie.Else1
+test c = loaded c .before .before .before
+
+abbrev start : tie.After-open → tie.Start
+start c = test c .before .before
+
+-- what the opening answers is its answer on the bank that the bytes stand for
+called : (c : tie.After-open) → let a = start c .args in
     Called (a .bank .now) (answer (c .«open» .result) (c .«open» .last .0))
     (openOf paper (wordsOf (a .bank .now)) (a .n) (a .mode))
 called c = record {
-  whole = c .before .before .before .before .before .before .if1 .left;
-  same = rw (c .before .before .before .load .ensures) at (c .«open» .ensures);
+  whole = test c .if1 .left;
+  same = rw (loaded c .load .ensures) at (c .«open» .ensures);
 }
+
+-- where the opening has answered, from where the bytes are written back
+abbrev reply : tie.After-write-back → tie.After-open
+reply c = c .before .before .before .before
 
 returns : tie.Need-returns
 returns c = rw (no-bank _ (c .if1 .taken))
@@ -42,7 +56,7 @@ same-length c = search needs
 
 returns-2 : tie.Need-returns-2
 returns-2 c =
-    let w = c .before .before in answered (called (w .before .before .before .before)) (w .write-back .ensures)
+    let w = c .before .before in answered (called (reply w)) (w .write-back .ensures)
 
 pub loargwen-open-spec : {M : Type 1} → statement M
 loargwen-open-spec =

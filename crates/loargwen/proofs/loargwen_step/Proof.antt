@@ -1,6 +1,7 @@
 -- loargwen_step: the group's answer on the bank that the bytes stand for; the bytes are written where it is 0.
-use Rattle.group.specs.Layout.{paper}
-use Rattle.group.specs.Opening.{answer}
+use Rattle.bank.specs.Layout.{paper}
+use Rattle.bank.specs.Opening.{answer}
+use Rattle.group.specs.Step.{ask}
 use Rattle.group.specs.Promises.{stepOf}
 use Rattle.loargwen.specs.Bytes.{wordsOf}
 use Rattle.loargwen.proofs.Answers.{Called, no-bank, answered}
@@ -8,14 +9,28 @@ use borrow.Author.Needs.{needs}
 use Rattle.loargwen.proofs.loargwen_step.Statement.{statement}
 use Rattle.loargwen.proofs.loargwen_step.Tie as tie
 
+-- from where the group has answered: where the words were loaded, the test of the length before it, the beginning
+abbrev loaded : tie.After-step → tie.After-load
+loaded c = c .before .before .before
+
+abbrev test : tie.After-step → tie.Else1
+test c = loaded c .before .before .before
+
+abbrev start : tie.After-step → tie.Start
+start c = test c .before .before
+
 -- what the group answers is its answer on the bank that the bytes stand for
-called : (c : tie.After-step) → let a = c .before .before .before .before .before .before .before .before .args in
+called : (c : tie.After-step) → let a = start c .args in
     Called (a .bank .now) (answer (c .step .result) (c .step .last .0))
-    (stepOf paper (wordsOf (a .bank .now)) (a .kind) (a .a) (a .b) (a .c))
+    (stepOf paper (wordsOf (a .bank .now)) (ask (a .kind) (a .a) (a .b) (a .c)))
 called c = record {
-  whole = c .before .before .before .before .before .before .if1 .left;
-  same = rw (c .before .before .before .load .ensures) at (c .step .ensures);
+  whole = test c .if1 .left;
+  same = rw (loaded c .load .ensures) at (c .step .ensures);
 }
+
+-- where the group has answered, from where the bytes are written back
+abbrev reply : tie.After-write-back → tie.After-step
+reply c = c .before .before .before .before
 
 returns : tie.Need-returns
 returns c = rw (no-bank _ (c .if1 .taken))
@@ -43,7 +58,7 @@ same-length c = search needs
 
 returns-2 : tie.Need-returns-2
 returns-2 c =
-    let w = c .before .before in answered (called (w .before .before .before .before)) (w .write-back .ensures)
+    let w = c .before .before in answered (called (reply w)) (w .write-back .ensures)
 
 pub loargwen-step-spec : {M : Type 1} → statement M
 loargwen-step-spec =

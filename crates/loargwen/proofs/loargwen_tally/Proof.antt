@@ -1,5 +1,5 @@
 -- loargwen_tally: the tally's answer on the bank that the bytes stand for.
-use Rattle.group.specs.Layout.{paper}
+use Rattle.bank.specs.Layout.{paper}
 use Rattle.day.specs.Tallies
 use Rattle.loargwen.specs.Bytes.{wordsOf}
 use Rattle.loargwen.proofs.Answers.{Called, no-bank, tallied}
@@ -7,14 +7,24 @@ use borrow.Author.Needs.{needs}
 use Rattle.loargwen.proofs.loargwen_tally.Statement.{statement}
 use Rattle.loargwen.proofs.loargwen_tally.Tie as tie
 
+-- from where the tally has answered: where the words were loaded, the test of the length before it, the beginning
+abbrev loaded : tie.After-tally-day → tie.After-load
+loaded c = c .before .before .before
+
+abbrev test : tie.After-tally-day → tie.Else1
+test c = loaded c .before .before
+
+abbrev start : tie.After-tally-day → tie.Start
+start c = test c .before .before
+
 -- what the tally answers is its answer on the bank that the bytes stand for
-called : (c : tie.After-tally-day) → let a = c .before .before .before .before .before .before .before .args in
+called : (c : tie.After-tally-day) → let a = start c .args in
     let t = c .tally-day .result in
     Called (a .bank .now) (Tallies.dayAnswer (t .refusal) (Tallies.tallied (t .count) (t .sum)))
     (Tallies.tallyOf paper (wordsOf (a .bank .now)) (a .who) (a .on))
 called c = record {
-  whole = c .before .before .before .before .before .if1 .left;
-  same = rw (c .before .before .before .load .ensures) at (c .tally-day .ensures);
+  whole = test c .if1 .left;
+  same = rw (loaded c .load .ensures) at (c .tally-day .ensures);
 }
 
 returns : tie.Need-returns

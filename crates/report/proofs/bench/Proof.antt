@@ -5,8 +5,8 @@ use mathlib.Core.Bool.{true}
 use mathlib.Core.List.{List}
 use native.Mathlib.Omega.{arith}
 use borrow.Author.Tests.{not-true, not-false}
-use Rattle.group.specs.Layout.{paper}
-use Rattle.group.specs.Opening.{answer, openOf}
+use Rattle.bank.specs.Layout.{paper}
+use Rattle.bank.specs.Opening.{answer, openOf}
 use Rattle.file.specs.Records.{wordAt, begun}
 use Rattle.file.proofs.Finding.{begun-length}
 use Rattle.report.specs.Bench.{blankBank}
@@ -16,20 +16,32 @@ use borrow.Author.Needs.{needs}
 use Rattle.report.proofs.bench.Statement.{statement}
 use Rattle.report.proofs.bench.Tie as tie
 
--- the file's bytes, at the place where the group has been opened
+-- where the group has been opened: the test of the file's beginning, which it passed, and the file's bytes
+abbrev test : tie.After-open → tie.Else1
+test c = c .before .before .before .before
+
 abbrev file : tie.After-open → List ℕ
-file c = c .before .before .before .before .before .before .before .before .args .input .now
+file c = test c .before .before .before .before .args .input .now
 
 is-begun : (c : tie.After-open) → begun (file c) ≡ true
-is-begun c =
-    let e = c .before .before .before .before in
-    sym (e .before .begun .ensures) ∙ not-false _ (e .if1 .left)
+is-begun c = let e = test c in sym (e .before .begun .ensures) ∙ not-false _ (e .if1 .left)
 
 opens : (c : tie.After-open)
     → answer (c .«open» .result) (c .«open» .last .0) ≡ openOf paper blankBank (wordAt (file c) 4) (wordAt (file c) 6)
 opens c =
     c .«open» .ensures
     ∙ ap₂ (openOf paper blankBank) (c .before .before .word-at .ensures) (c .before .word-at2 .ensures)
+
+-- the open, from where it is not refused; the records played, from where the bank's lines are about to be printed; and
+-- those lines, from where the last one is
+abbrev opened : tie.Else2 → tie.After-open
+opened c = c .before .before
+
+abbrev played : tie.After-bank5 → tie.After-play
+played c = c .before .before .before
+
+abbrev printed : tie.After-end-line3 → tie.After-bank-lines
+printed c = c .before .before .before .before
 
 begun-requires : tie.Need-begun-requires
 begun-requires c κs = search needs
@@ -76,16 +88,16 @@ slice-aggregate-play : tie.Need-slice-aggregate-play
 slice-aggregate-play c = search needs
 
 play-requires : tie.Need-play-requires
-play-requires c κs = begun-length _ (is-begun (c .before .before .before))
+play-requires c κs = begun-length _ (is-begun (opened (c .before)))
 
 slice-aggregate-bank-lines : tie.Need-slice-aggregate-bank-lines
 slice-aggregate-bank-lines c = search needs
 
 bank-lines-requires : tie.Need-bank-lines-requires
 bank-lines-requires c κs =
-    let p = c .before .before .before in
+    let p = played c in
     let t = p .before .before in
-    let o = t .before .before in
+    let o = opened t in
     (omega arith, fit-reported _ (is-begun o) (opens o) (t .if2 .left) (p .play .ensures))
 
 end-line-requires-3 : tie.Need-end-line-requires-3
@@ -97,10 +109,10 @@ same-length-3 c = search needs
 returns-3 : tie.Need-returns-3
 returns-3 c =
     let l = c .before .before in
-    let b = l .before .before .before .before in
-    let p = b .before .before .before .before in
+    let b = printed l in
+    let p = played (b .before) in
     let t = p .before .before in
-    let o = t .before .before in
+    let o = opened t in
     let both = b .bank-lines .ensures then l .end-line3 .ensures in
     (promised _ both (reports-played _ (is-begun o) (opens o) (t .if2 .left) (p .play .ensures)), omega arith)
 

@@ -1,8 +1,9 @@
 -- run_steps meets its contract: a walk through its MIR by hand, statement by statement, since the borrow checker covers
--- no reference to a slice of structs. The walk begins here, with the entry and the test of the bank; the loop's turn is
--- in Proof/Turn. At every head of the loop the answer of the whole list is the answer from the record at hand on.
--- It rests on that `group::fit` and `group::step` meet their contracts, and on nothing of how they do it.
-use mathlib.Core.Path.{refl, sym, _∙_}
+-- no reference to a slice of structs. The walk begins here, with the entry and the test of the bank; the loop's turn,
+-- with what holds at its head and what falls, is in Proof/Turn.
+-- It rests on that `bank::fit` and `group::step` meet their contracts, and on nothing of how they do it.
+use mathlib.Core.Path.{_≡_, refl, sym, _∙_}
+use mathlib.Core.Bool.{false}
 use mathlib.Core.List.{[], _∷_}
 use lib.Dec.{lit<}
 use borrow.Author.Tests.{not-true, not-false}
@@ -28,10 +29,11 @@ use denote.Triple.Statement.{Triple}
 use denote.Triple.Table.{entered, cited}
 use denote.Triple.Walked.{walked, goes-slice, goes-none-slice, walk-meets}
 use denote.Exit.{yes}
-use Rattle.group.specs.Layout.{paper}
-use Rattle.group.proofs.StepByStep.{run-unfit}
-use Rattle.group.proofs.fit.Symbol as fit
-use Rattle.group.proofs.fit.Met as fit-met
+use Rattle.bank.specs.Layout.{paper}
+use Rattle.bank.specs.Fit as Fitness
+use Rattle.bank.proofs.fit.Symbol as fit
+use Rattle.bank.proofs.fit.Met as fit-met
+use Rattle.lists.proofs.StepByStep.{run-unfit}
 use Rattle.group.proofs.step.Symbol as step
 use Rattle.group.proofs.step.Met as step-met
 use Rattle.step_records.specs.Records.{flat}
@@ -45,13 +47,22 @@ use Rattle.step_records.proofs.run_steps.Key.{name as #step-records·ru
 use Rattle.step_records.proofs.run_steps.Statement.{statement}
 use Rattle.step_records.proofs.run_steps.Code as code
 use Rattle.step_records.proofs.run_steps.Proof.Slots.{at, lasting, ofBank, ofSteps}
-use Rattle.step_records.proofs.run_steps.Proof.Frame.{stayed, Call, words-fit, steps-fit, theLocals, bankValue}
-use Rattle.step_records.proofs.run_steps.Proof.Frame.{stepsValue, values, Lent, AtEntry, WalkTriple, bound}
-use Rattle.step_records.proofs.run_steps.Proof.Frame.{Owes, answers}
+use Rattle.step_records.proofs.run_steps.Proof.Frame.{stayed, Call, Right, theLocals, bankValue, stepsValue}
+use Rattle.step_records.proofs.run_steps.Proof.Frame.{bank-typed, steps-typed, values, Lent, AtEntry, WalkTriple}
+use Rattle.step_records.proofs.run_steps.Proof.Frame.{bound, Owes, answers}
 use Rattle.step_records.proofs.run_steps.Proof.Turn.{Less, less-wf, begun, Inv, turn}
 mod Slots
 mod Frame
 mod Turn
+
+-- an unfit bank is refused by 1, and left as it is
+refused : (c : Call) → Fitness.fit paper (c .bank .now) ≡ false → Right c 0 1 (c .bank .now)
+refused c unfit = record {
+  promised = sym (run-unfit paper (c .bank .now) (flat (c .steps .now)) unfit);
+  as-long = refl;
+  accepted-fits = record { fits = lit< tt };
+  refusal-fits = record { fits = lit< tt };
+}
 
 module _ {M : Type 1} (𝓤 : URA M) (H : Heap 𝓤) (A : Atoms 𝓤) (W : Given 𝓤 H A) (mem : Memory → SProp 𝓤)
     (run : Routine → Fun 𝓤) (𝓣 : Tables 𝓤 H) (fit-meets : Triple 𝓤 (𝓣 .C fit.name) (FitContract 𝓤 H A mem run))
@@ -63,20 +74,19 @@ module _ {M : Type 1} (𝓤 : URA M) (H : Heap 𝓤) (A : Atoms 𝓤) (W : Given
     begins bs =
         qed W (AtEntry c bs) ∵
         exec ! (𝓣 .C) (𝓣 .Λ) (theLocals bs) (code.function .body) (atRet (theLocals bs) (Owes 𝓤 H A mem run c)) $
-        -- if !group::fit(bank)
+        -- if !bank::fit(bank)
         fills ! at.startForFit refl (start-of ! at.bank refl refl refl) (tt, tt) $
         fills ! at.bankForFit refl (both ! (var ! at.startForFit refl) (part-of ! at.bank refl refl refl))
-        (tt, (tt, (words-fit c, tt))) $
+        (tt, bank-typed c) $
         asks-fit ! (fmOf 𝓤 H (W .laws) 𝓣) mem run (c .bank) refl fit-meets
         (λ _ _. and-then ! (var ! at.bankForFit refl) (no-more !)) (λ w y value promise.
         receives ! at.isFit refl value (tt, tt) $
         fills ! at.unfit refl (un ! (var ! at.isFit refl) tt) (tt, tt) $
         if-then ! (var ! at.unfit refl) (not-true y) (not-false y)
-        -- return Ran { accepted: 0, refusal: 1 };
+        -- return Ran { accepted: 0, refusal: Refusal::UNFIT };
         (λ unfit.
-        answers 𝓤 H A mem run c ! 0 1 (c .bank .now)
-        (sym (run-unfit paper (c .bank .now) (flat (c .steps .now)) (sym promise ∙ unfit))) refl
-        (record { fits = lit< tt }) (record { fits = lit< tt }) (lit ! tt) (lit ! tt) (search standing depth 20) refl)
+        answers 𝓤 H A mem run c ! (refused c (sym promise ∙ unfit)) (lit ! tt) (lit ! tt)
+        (search standing depth 20) refl)
         -- let mut i: usize = 0;
         (λ fit.
         fills ! at.index refl (of-opd ! (lit ! tt)) (tt, record { fits = lit< tt }) $
@@ -97,8 +107,8 @@ module _ {M : Type 1} (𝓤 : URA M) (H : Heap 𝓤) (A : Atoms 𝓤) (W : Given
         -- [both parameters; the bank's token; the steps' token]
         fsplit ! $ unvalued ! $ move ! (1 ∷ []) $ fsplit ! $ unvalued ! $ keep ! (2 ∷ 3 ∷ 0 ∷ 4 ∷ []) $
         allocated ! code.Mir.locals (λ bs. params1 ! $
-        pass1 ! (init ! at.bank refl (tt, (tt, (words-fit c, tt)))) $
-        pass1 ! (init ! at.steps refl (tt, (tt, (steps-fit c, tt)))) $ pass0 ! $
+        pass1 ! (init ! at.bank refl (tt, bank-typed c)) $
+        pass1 ! (init ! at.steps refl (tt, steps-typed c)) $ pass0 ! $
         by ! (begins bs))
 
   walks : Triple 𝓤 (WpFn 𝓤 H (𝓣 .C) (𝓣 .Λ) code.function) (WalkTriple 𝓤 H A mem run)
@@ -106,8 +116,18 @@ module _ {M : Type 1} (𝓤 : URA M) (H : Heap 𝓤) (A : Atoms 𝓤) (W : Given
       walked 𝓤 H A run-steps.ended stayed (run-steps.clauses 𝓤 H A mem run) (WpFn 𝓤 H (𝓣 .C) (𝓣 .Λ) code.function)
       (λ κs. (slice-vals, (slice-vals, tt)))
       (λ (κ, (κ′, _)). (mut-slice-tells (named ofBank) κ u16, (shr-slice-tells (named ofSteps) κ′ S.the-row, tt)))
-      (λ (κ, (κ′, _)) (q, (q′, _)) bounds (x, (y, _)) g (((_, x-room), _), (((_, y-room), _), _)).
-      walk (record { bank = x; κ = κ; q = q; bank-room = x-room; steps = y; κ′ = κ′; q′ = q′; steps-room = y-room }))
+      (λ (κ, (κ′, _)) (q, (q′, _)) bounds (x, (y, _)) g (((_, (words, _)), _), (((_, (steps, bytes)), _), _)).
+      walk (record {
+        bank = x;
+        κ = κ;
+        q = q;
+        words-fit = record { fits = words };
+        steps = y;
+        κ′ = κ′;
+        q′ = q′;
+        steps-fit = record { fits = steps };
+        bytes-fit = bytes;
+      }))
 
   meets : Meets 𝓤 H A run-steps.signature (WpFn 𝓤 H (𝓣 .C) (𝓣 .Λ) code.function) (run-steps.spec 𝓤 H A mem run)
   meets =
@@ -125,7 +145,7 @@ run-steps-spec 𝓤 H 𝓜 𝓖 𝓡 =
     (tables 𝓤 H 𝓜 𝓡 code.env .C) (tables 𝓤 H 𝓜 𝓡 code.env .Λ) #step-records·run-steps code.function
     (code.unfolded 𝓤 H 𝓜 𝓡)
     (meets 𝓤 H (𝓖 .A) (givenOf 𝓤 H 𝓜 𝓖) (𝓜 .mem) (𝓡 .run) (tablesOf 𝓤 H 𝓜 (tables 𝓤 H 𝓜 𝓡 code.env))
-    (cited 𝓤 H (FitContract 𝓤 H (𝓖 .A) (𝓜 .mem) (𝓡 .run)) 𝓜 𝓡 code.env fit.name fit.routine code.calls-group·fit
+    (cited 𝓤 H (FitContract 𝓤 H (𝓖 .A) (𝓜 .mem) (𝓡 .run)) 𝓜 𝓡 code.env fit.name fit.routine code.calls-bank·fit
     (fit-met.met 𝓤 H 𝓜 𝓖 𝓡))
     (cited 𝓤 H (StepContract 𝓤 H (𝓖 .A) (𝓜 .mem) (𝓡 .run)) 𝓜 𝓡 code.env step.name step.routine code.calls-group·step
     (step-met.met 𝓤 H 𝓜 𝓖 𝓡)))

@@ -1,4 +1,5 @@
--- say_entries: each turn goes one entry on.
+-- say_entries: at every turn entry k is reached within the log. A turn says one entry and goes one on. What falls is
+-- the entries left.
 use Prim.Native.Nat.{_-_, _≤_}
 use native.Mathlib.Omega.{arith}
 use lib.ListN.{length}

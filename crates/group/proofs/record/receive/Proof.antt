@@ -1,20 +1,21 @@
 -- receive: the four words are read before any is written, so the stores are the definition's writes.
-use borrow.Author.Needs.{needs}
-use Prim.Native.Nat.{_-_, _<_}
+use Prim.Native.Nat.{_<_}
 use native.Mathlib.Omega.{arith}
 use lib.ListN.{length-set}
 use Rattle.sets.proofs.Members.{join-with}
+use Rattle.bank.proofs.Rooms.{few}
+use borrow.Author.Needs.{needs}
 use Rattle.group.proofs.record.receive.Statement.{statement}
 use Rattle.group.proofs.record.receive.Tie as tie
 
-add-f : tie.Need-add-f
-add-f c = search needs
+flight-at-requires : tie.Need-flight-at-requires
+flight-at-requires c κs = search needs
 
-add-a : tie.Need-add-a
-add-a c = search needs
+acked-at-requires : tie.Need-acked-at-requires
+acked-at-requires c κs = search needs
 
-add-u : tie.Need-add-u
-add-u c = search needs
+unsent-at-requires : tie.Need-unsent-at-requires
+unsent-at-requires c κs = search needs
 
 mul-in-flight : tie.Need-mul-in-flight
 mul-in-flight c = search needs
@@ -46,8 +47,8 @@ mul-record c = search needs
 slice-write-record : tie.Need-slice-write-record
 slice-write-record c = search needs
 
-with-requires : tie.Need-with-requires
-with-requires c κs = search needs
+join-requires : tie.Need-join-requires
+join-requires c κs = search needs
 
 mul-record-2 : tie.Need-mul-record-2
 mul-record-2 c = search needs
@@ -55,14 +56,14 @@ mul-record-2 c = search needs
 slice-write-record-2 : tie.Need-slice-write-record-2
 slice-write-record-2 c = simp length-set (omega arith)
 
-with-requires-2 : tie.Need-with-requires-2
-with-requires-2 c κs = search needs
+join-requires-2 : tie.Need-join-requires-2
+join-requires-2 c κs = search needs
 
 slice-write-record-3 : tie.Need-slice-write-record-3
-slice-write-record-3 c = search needs
+slice-write-record-3 c = simp length-set (omega arith)
 
 relay-requires : tie.Need-relay-requires
-relay-requires c κs = search needs
+relay-requires c κs = omega (arith, few (c .before .before .before .before .before .before .before .before .before .before .before .args .room))
 
 mul-record-3 : tie.Need-mul-record-3
 mul-record-3 c = search needs
@@ -75,25 +76,29 @@ same-length c = search needs
 
 returns : tie.Need-returns
 returns c =
-    let s = c .before .before .before .before .before .before .before .before .before .args in
-    let i : s .i < 16 = omega arith in
-    let f : s .from < 16 = omega arith in
+    let u = c .before .before .before .before .before .before .before .before in
+    let s = u .before .before .before .before .args in
+    let i : s .i < 16 = omega (arith, few (s .room)) in
+    let f : s .from < 16 = omega (arith, few (s .room)) in
     rw (
       c .before .before .before .without .ensures,
-      c .before .before .with .ensures,
-      c .before .with2 .ensures,
+      c .before .before .join .ensures,
+      c .before .join2 .ensures,
       c .relay .ensures,
       join-with _ _ i,
       join-with _ _ f,
+      u .unsent-at .ensures,
+      u .before .acked-at .ensures,
+      u .before .before .flight-at .ensures,
     )
 
 pub receive-spec : {M : Type 1} → statement M
 receive-spec =
     tie.close
     (tie.spec
-    add-f
-    add-a
-    add-u
+    flight-at-requires
+    acked-at-requires
+    unsent-at-requires
     mul-in-flight
     slice-read-in-flight
     mul-acked
@@ -104,10 +109,10 @@ receive-spec =
     without-requires
     mul-record
     slice-write-record
-    with-requires
+    join-requires
     mul-record-2
     slice-write-record-2
-    with-requires-2
+    join-requires-2
     slice-write-record-3
     relay-requires
     mul-record-3

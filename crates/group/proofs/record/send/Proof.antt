@@ -1,17 +1,18 @@
 -- send: the two words are read before either is written, so the stores are the definition's writes.
-use borrow.Author.Needs.{needs}
-use Prim.Native.Nat.{_-_, _<_}
+use Prim.Native.Nat.{_<_}
 use native.Mathlib.Omega.{arith}
 use lib.ListN.{length-set}
 use Rattle.sets.proofs.Members.{join-with}
+use Rattle.bank.proofs.Rooms.{few}
+use borrow.Author.Needs.{needs}
 use Rattle.group.proofs.record.send.Statement.{statement}
 use Rattle.group.proofs.record.send.Tie as tie
 
-add-u : tie.Need-add-u
-add-u c = search needs
+unsent-at-requires : tie.Need-unsent-at-requires
+unsent-at-requires c κs = search needs
 
-add-f : tie.Need-add-f
-add-f c = search needs
+flight-at-requires : tie.Need-flight-at-requires
+flight-at-requires c κs = search needs
 
 mul-unsent : tie.Need-mul-unsent
 mul-unsent c = search needs
@@ -34,8 +35,8 @@ mul-record c = search needs
 slice-write-record : tie.Need-slice-write-record
 slice-write-record c = search needs
 
-with-requires : tie.Need-with-requires
-with-requires c κs = search needs
+join-requires : tie.Need-join-requires
+join-requires c κs = search needs
 
 mul-record-2 : tie.Need-mul-record-2
 mul-record-2 c = search needs
@@ -48,15 +49,23 @@ same-length c = search needs
 
 returns : tie.Need-returns
 returns c =
-    let h : (c .before .before .before .before .before .args .from) < 16 = omega arith in
-    rw (c .before .without .ensures, c .with .ensures, join-with _ _ h)
+    let f = c .before .before .before .before in
+    let s = f .before .before .before .args in
+    let h : s .from < 16 = omega (arith, few (s .room)) in
+    rw (
+      c .before .without .ensures,
+      c .join .ensures,
+      join-with _ _ h,
+      f .before .unsent-at .ensures,
+      f .flight-at .ensures,
+    )
 
 pub send-spec : {M : Type 1} → statement M
 send-spec =
     tie.close
     (tie.spec
-    add-u
-    add-f
+    unsent-at-requires
+    flight-at-requires
     mul-unsent
     slice-read-unsent
     mul-in-flight
@@ -64,7 +73,7 @@ send-spec =
     without-requires
     mul-record
     slice-write-record
-    with-requires
+    join-requires
     mul-record-2
     slice-write-record-2
     same-length

@@ -1,50 +1,29 @@
--- of_receive: what copy refuses is refused, and past it the copies in flight to i lie in the bank and moves decides.
+-- of_receive: what ends refuses is refused, and past it moves decides.
+use Rattle.group.proofs.Deciding.{parted}
 use borrow.Author.Needs.{needs}
-use Rattle.group.proofs.Deciding.{parted, recorded, copied}
 use Rattle.group.proofs.refusals.of_receive.Statement.{statement}
 use Rattle.group.proofs.refusals.of_receive.Tie as tie
 
-copy-requires : tie.Need-copy-requires
-copy-requires c κs = search needs
+ends-requires : tie.Need-ends-requires
+ends-requires c κs = search needs
 
 returns : tie.Need-returns
 returns c = search parted
 
-shared-slice-read-up : tie.Need-shared-slice-read-up
-shared-slice-read-up c = search needs
+word-requires : tie.Need-word-requires
+word-requires c κs = search needs
 
-record-at-requires : tie.Need-record-at-requires
-record-at-requires c κs = search needs
-
-add-in-flight : tie.Need-add-in-flight
-add-in-flight c = search needs
-
-add-in-flight-2 : tie.Need-add-in-flight-2
-add-in-flight-2 c = search needs
-
-mul-in-flight : tie.Need-mul-in-flight
-mul-in-flight c = search needs
-
-shared-slice-read-in-flight : tie.Need-shared-slice-read-in-flight
-shared-slice-read-in-flight c = search copied
+in-flight-requires : tie.Need-in-flight-requires
+in-flight-requires c κs = search needs
 
 moves-requires : tie.Need-moves-requires
 moves-requires c κs = search needs
 
 returns-2 : tie.Need-returns-2
-returns-2 c = search (parted, recorded)
+returns-2 c =
+    let e = rw (c .before .in-flight .ensures, c .before .before .word .ensures) at (c .moves .ensures) in search parted
 
 pub of-receive-spec : {M : Type 1} → statement M
 of-receive-spec =
     tie.close
-    (tie.spec
-    copy-requires
-    returns
-    shared-slice-read-up
-    record-at-requires
-    add-in-flight
-    add-in-flight-2
-    mul-in-flight
-    shared-slice-read-in-flight
-    moves-requires
-    returns-2)
+    (tie.spec ends-requires returns word-requires in-flight-requires moves-requires returns-2)

@@ -7,34 +7,37 @@ use mathlib.Core.Option.{some}
 use Prim.Native.Nat.{ℕ}
 use lib.Dec.{eqb}
 use denote.Ref.{now}
-use Rattle.group.specs.Layout.{paper}
-use Rattle.group.specs.Step.{Step, broadcast, send, receive, deliver, crash, detect, lose, asked, unused}
+use Rattle.bank.specs.Layout.{layout}
+use Rattle.group.specs.Step.{Step, broadcast, send, receive, deliver, crash, detect, lose}
+use Rattle.group.specs.Step.{Asked, ask, asked, unused}
 use Rattle.group.specs.Promises.{Allowed, after, askedAfter}
-use Rattle.group.proofs.Fitness.{allowed-step, asked-free, not-asked}
+use Rattle.group.proofs.Accepted.{allowed-step, asked-free, not-asked}
 use Rattle.group.proofs.steps.apply.Statement.{statement}
 use Rattle.group.proofs.steps.apply.Tie as tie
 
--- the four numbers ask for the step
+-- the four numbers, and that they ask for a step
+abbrev numbers : tie.Start → Asked
+numbers c = ask (c .args .kind) (c .args .a) (c .args .b) (c .args .c)
+
 abbrev Asks : tie.Start → Step → Type 0
-Asks c s = asked (c .args .kind) (c .args .a) (c .args .b) (c .args .c) ≡ some s
+Asks c s = asked (numbers c) ≡ some s
 
-allowed : (c : tie.Start) (s : Step) → Asks c s → Allowed paper (now (c .args .bank)) s
-allowed c s e = allowed-step paper (now (c .args .bank)) (c .args .kind) (c .args .a) (c .args .b) (c .args .c) s
-    (c .pre) e
+allowed : (c : tie.Start) (s : Step) → Asks c s → Allowed (layout (c .args .room)) (now (c .args .bank)) s
+allowed c s e = allowed-step (layout (c .args .room)) (now (c .args .bank)) (numbers c) s (c .pre) e
 
-done : (c : tie.Start) (s : Step) → Asks c s → {l : List ℕ} → l ≡ after paper (now (c .args .bank)) s
-    → l ≡ askedAfter paper (now (c .args .bank)) (asked (c .args .kind) (c .args .a) (c .args .b) (c .args .c))
-done c s e h = h ∙ sym (ap (askedAfter paper (now (c .args .bank))) e)
+done : (c : tie.Start) (s : Step) → Asks c s → {l : List ℕ} → l ≡ after (layout (c .args .room)) (now (c .args .bank)) s
+    → l ≡ askedAfter (layout (c .args .room)) (now (c .args .bank)) (asked (numbers c))
+done c s e h = h ∙ sym (ap (askedAfter (layout (c .args .room)) (now (c .args .bank))) e)
 
 -- a kind's own step, and one with numbers that it does not use
 asks : (c : tie.Start) (k : ℕ) → c .args .kind ≡ k
-    → asked (c .args .kind) (c .args .a) (c .args .b) (c .args .c) ≡ asked k (c .args .a) (c .args .b) (c .args .c)
-asks c k e = ap (λ x. asked x (c .args .a) (c .args .b) (c .args .c)) e
+    → asked (numbers c) ≡ asked (ask k (c .args .a) (c .args .b) (c .args .c))
+asks c k e = ap (λ (k : ℕ). asked (ask k (c .args .a) (c .args .b) (c .args .c))) e
 
 asks-unused : (c : tie.Start) (t : Bool) (s : Step)
-    → asked (c .args .kind) (c .args .a) (c .args .b) (c .args .c) ≡ unused t s → Asks c s
+    → asked (numbers c) ≡ unused t s → Asks c s
 asks-unused c t s e =
-    asked-free paper (now (c .args .bank)) (c .args .kind) (c .args .a) (c .args .b) (c .args .c) t s (c .pre) e
+    asked-free (layout (c .args .room)) (now (c .args .bank)) (numbers c) t s (c .pre) e
 
 -- ---- arm by arm
 
@@ -153,8 +156,8 @@ returns-8 c =
     let s = c .before .before .args in
     let r = c .match .rest in
     sym
-    (ap (askedAfter paper (now (s .bank)))
-    (not-asked (s .kind) (s .a) (s .b) (s .c) (r .0 .0 .0 .0 .0 .0 .1) (r .0 .0 .0 .0 .0 .1) (r .0 .0 .0 .0 .1)
+    (ap (askedAfter (layout (s .room)) (now (s .bank)))
+    (not-asked (numbers (c .before .before)) (r .0 .0 .0 .0 .0 .0 .1) (r .0 .0 .0 .0 .0 .1) (r .0 .0 .0 .0 .1)
     (r .0 .0 .0 .1)
     (r .0 .0 .1) (r .0 .1) (r .1)))
 

@@ -1,22 +1,47 @@
 -- broadcast: the next record is lent and written whole, and the count is one more.
-use borrow.Author.Needs.{needs}
-use mathlib.Core.Path.{refl, sym, ap, _∙_}
-use Prim.Native.Nat.{ℕ, _+_, _-_, _<_, _≤_}
+use mathlib.Core.Path.{sym, ap, subst, _∙_}
+use mathlib.Core.List.{[], _∷_}
+use Prim.Native.Nat.{ℕ, _+_, _≤_, _<_}
 use native.Mathlib.Omega.{arith}
 use denote.Ref.{now}
-use Rattle.group.specs.Layout.{paper}
-use mathlib.Core.List.{[], _∷_}
 use borrow.Author.Tests.{ltb-true}
 use lib.ListN.{length, set, length-take, length-drop}
-use Rattle.group.specs.Place.{N, count, recordOf, _≔_}
-use Rattle.group.specs.Layout.{address, recordAt, words, inRecord}
-use Rattle.group.specs.Writes.{fresh, freshRecord}
+use Rattle.bank.specs.Place.{N, count, recordOf, _≔_}
+use Rattle.bank.specs.Layout.{Layout, layout, address, recordAt, recordSize, words, inRecord}
+use Rattle.bank.proofs.Places.{record-inside}
+use Rattle.bank.proofs.Rooms.{short}
+use Rattle.bank.proofs.Lending.{lent-whole}
+use Rattle.bank.proofs.Reading.{puts-append}
+use Rattle.group.specs.Writes.{freshRecord}
+use Rattle.group.proofs.Granted.{Broadcasts, broadcast-granted}
 use Rattle.group.proofs.Bounds.{controller-below}
-use Rattle.group.proofs.Fresh.{fields-below}
-use Rattle.group.proofs.Lending.{lent}
-use Rattle.group.proofs.Reading.{puts-append}
+use Rattle.group.proofs.Changes.{fresh-rests, fresh-within}
+use borrow.Author.Needs.{needs}
 use Rattle.group.proofs.steps.broadcast.Statement.{statement}
 use Rattle.group.proofs.steps.broadcast.Tie as tie
+
+-- the layout, what the rules grant, and that a message number is left
+abbrev sort : tie.Start → Layout
+sort c = layout (c .args .room)
+
+granted : (c : tie.Start) → Broadcasts (sort c) (words (sort c) (now (c .args .bank))) (c .args .who)
+granted c = broadcast-granted (sort c) _ (c .args .stamp) (c .args .value) (c .pre .free)
+
+next : (c : tie.Start) → words (sort c) (now (c .args .bank)) count < sort c .messages
+next c = ltb-true _ _ (granted c .room)
+
+-- the record ends in the bank
+fits : (c : tie.Start) → let m = words (sort c) (now (c .args .bank)) count in
+    recordAt (sort c) m + recordSize (sort c) ≤ length (now (c .args .bank))
+fits c = rw (c .pre .sound .whole) (record-inside (sort c) _ (next c))
+
+-- where the record is lent: the function's beginning
+abbrev start : tie.After-record-end → tie.Start
+start c = c .before .before .before .before .before
+
+within : (c : tie.After-record-end) → c .record-end .result ≤ length (now (start c .args .bank))
+within c =
+    subst (λ x. x ≤ length (now (start c .args .bank))) (sym (c .record-end .ensures)) (fits (start c))
 
 slice-read-n : tie.Need-slice-read-n
 slice-read-n c = search needs
@@ -27,11 +52,11 @@ slice-read-m c = search needs
 record-at-requires : tie.Need-record-at-requires
 record-at-requires c κs = search needs
 
-add-e : tie.Need-add-e
-add-e c = search needs
+record-end-requires : tie.Need-record-end-requires
+record-end-requires c κs = search needs
 
 mul-write-fresh : tie.Need-mul-write-fresh
-mul-write-fresh c = search needs
+mul-write-fresh c = let h = within c in omega arith
 
 sub-write-fresh : tie.Need-sub-write-fresh
 sub-write-fresh c = search needs
@@ -39,23 +64,21 @@ sub-write-fresh c = search needs
 part-write-fresh-start : tie.Need-part-write-fresh-start
 part-write-fresh-start c = search needs
 
-below : (c : tie.Start) → (c .args .who < 16) × (words paper (now (c .args .bank)) count < 32)
-below c = (
-  controller-below paper (now (c .args .bank)) (c .pre .sound) (c .args .who) (c .pre .free .0),
-  ltb-true _ _ (c .pre .free .1 .1 .0),
-)
-
 part-write-fresh-end : tie.Need-part-write-fresh-end
-part-write-fresh-end c = omega (arith, below (c .before .before .before .before), c .record-at .ensures)
+part-write-fresh-end c = within c
 
 write-fresh-requires : tie.Need-write-fresh-requires
 write-fresh-requires c κs =
-    let s = c .before .before .before .before .before in
-    let h = below s in
-    (simp (length-take, length-drop) (omega (arith, c .before .record-at .ensures)), h .0, s .pre .sound .few)
+    let s = start (c .before) in (
+      simp (length-take, length-drop)
+          (omega (arith, c .before .record-end .ensures, c .before .before .record-at .ensures, fits s)),
+      controller-below (sort s) _ (s .pre .sound) (s .args .who) (granted s .there),
+      s .pre .sound .few,
+    )
 
 add-bank : tie.Need-add-bank
-add-bank c = search needs
+add-bank c =
+    let s = start (c .before .before .before .before) in omega (arith, next s, short (s .args .room))
 
 slice-write-bank : tie.Need-slice-write-bank
 slice-write-bank c = search needs
@@ -65,20 +88,16 @@ same-length c = search needs
 
 returns : tie.Need-returns
 returns c =
-    let s = c .before .before .before .before .before .before .before .before in
-    let h = below s in
+    let w = c .before .before .before .before in
+    let s = start w in
+    let L = sort s in
     let b = now (s .args .bank) in
-    let m : ℕ = words paper b count in
-    let n : ℕ = words paper b N in
-    let a : ℕ = recordAt paper m in
-    let k : ℕ = (a + 53) - a in
-    let new = freshRecord paper n (s .args .who) (s .args .stamp) (s .args .value) in
-    let fits : a + k ≤ length b = omega (arith, s .pre .sound .whole) in
-    rw (c .before .before .write-fresh .ensures, c .before .before .before .before .record-at .ensures)
-    (ap (λ l. set l 2 (m + 1))
-    (lent paper m k b new fits refl
-    (fields-below paper (fresh n (s .args .who) (s .args .stamp) (s .args .value)) k (omega arith)))
-    ∙ sym (puts-append (address paper) b (inRecord m (new (recordOf (words paper b) m))) (count ≔ (m + 1) ∷ [])))
+    let m : ℕ = words L b count in
+    let new = freshRecord L (words L b N) (s .args .who) (s .args .stamp) (s .args .value) in
+    rw (c .before .before .write-fresh .ensures, w .before .record-at .ensures, w .record-end .ensures)
+    (ap (λ l. set l (address L count) (m + 1))
+    (lent-whole L m b (fits s) new (fresh-rests L _ _ _ _) (fresh-within L _ _ _ _))
+    ∙ sym (puts-append (address L) b (inRecord m (new (recordOf (words L b) m))) (count ≔ (m + 1) ∷ [])))
 
 pub broadcast-spec : {M : Type 1} → statement M
 broadcast-spec =
@@ -87,7 +106,7 @@ broadcast-spec =
     slice-read-n
     slice-read-m
     record-at-requires
-    add-e
+    record-end-requires
     mul-write-fresh
     sub-write-fresh
     part-write-fresh-start

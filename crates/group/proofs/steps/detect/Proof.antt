@@ -1,25 +1,36 @@
 -- detect: one word, the controller's own view.
-use borrow.Author.Needs.{needs}
-use mathlib.Core.Path.{ap}
-use Prim.Native.Nat.{_-_, _<_}
+use Prim.Native.Nat.{_<_}
 use native.Mathlib.Omega.{arith}
 use denote.Ref.{now}
-use Rattle.group.specs.Layout.{paper}
+use lib.ListN.{length}
+use Rattle.bank.specs.Place.{view}
+use Rattle.bank.specs.Layout.{layout, words}
+use Rattle.bank.proofs.Places.{inside}
+use Rattle.group.proofs.Granted.{Detects, detect-granted}
 use Rattle.group.proofs.Bounds.{controller-below}
+use borrow.Author.Needs.{needs}
 use Rattle.group.proofs.steps.detect.Statement.{statement}
 use Rattle.group.proofs.steps.detect.Tie as tie
 
-add-v : tie.Need-add-v
-add-v c = search needs
+granted : (c : tie.Start) → Detects (words (layout (c .args .room)) (now (c .args .bank))) (c .args .i) (c .args .j)
+granted c = detect-granted (layout (c .args .room)) _ (c .pre .free)
+
+-- the view stands in the bank
+here : (c : tie.After-view-at) → c .view-at .result < length (now (c .before .before .args .bank))
+here c =
+    let s = c .before .before in
+    let L = layout (s .args .room) in
+    let i = controller-below L (now (s .args .bank)) (s .pre .sound) (s .args .i) (granted s .first) in
+    omega (arith, c .view-at .ensures, s .pre .sound .whole, inside L (view (s .args .i)) i)
+
+view-at-requires : tie.Need-view-at-requires
+view-at-requires c κs = search needs
 
 mul-without : tie.Need-mul-without
 mul-without c = search needs
 
-below : (c : tie.Start) → c .args .i < 16
-below c = controller-below paper (now (c .args .bank)) (c .pre .sound) (c .args .i) (c .pre .free .0)
-
 slice-read-without : tie.Need-slice-read-without
-slice-read-without c = omega (arith, below (c .before .before))
+slice-read-without c = here (c .before)
 
 without-requires : tie.Need-without-requires
 without-requires c κs = search needs
@@ -28,19 +39,19 @@ mul-bank : tie.Need-mul-bank
 mul-bank c = search needs
 
 slice-write-bank : tie.Need-slice-write-bank
-slice-write-bank c = omega (arith, below (c .before .before .before))
+slice-write-bank c = here (c .before .before)
 
 same-length : tie.Need-same-length
 same-length c = search needs
 
 returns : tie.Need-returns
-returns c = rw (c .without .ensures)
+returns c = rw (c .without .ensures, c .before .before .view-at .ensures)
 
 pub detect-spec : {M : Type 1} → statement M
 detect-spec =
     tie.close
     (tie.spec
-    add-v
+    view-at-requires
     mul-without
     slice-read-without
     without-requires

@@ -1,60 +1,85 @@
--- lose: one word, the receiver's copies in flight.
-use borrow.Author.Needs.{needs}
-use mathlib.Core.Path.{ap}
-use Prim.Native.Nat.{_-_, _<_}
+-- lose: as a send, of one word.
+use mathlib.Core.Path.{sym, subst}
+use Prim.Native.Nat.{ℕ, _+_, _≤_}
 use native.Mathlib.Omega.{arith}
 use denote.Ref.{now}
-use Rattle.group.specs.Layout.{paper}
-use Rattle.group.proofs.Bounds.{copy-below}
+use lib.ListN.{length, length-take, length-drop}
+use Rattle.bank.specs.Layout.{Layout, layout, recordAt, recordSize}
+use Rattle.bank.proofs.Places.{record-inside}
+use Rattle.bank.proofs.Lending.{lent-whole}
+use Rattle.group.specs.Writes.{lost}
+use Rattle.group.proofs.Granted.{lose-granted}
+use Rattle.group.proofs.Bounds.{EndsIn, ends-below}
+use Rattle.group.proofs.Changes.{lost-rests, lost-within}
+use borrow.Author.Needs.{needs}
 use Rattle.group.proofs.steps.lose.Statement.{statement}
 use Rattle.group.proofs.steps.lose.Tie as tie
+
+-- the layout, and both ends and the message in it
+abbrev sort : tie.Start → Layout
+sort c = layout (c .args .room)
+
+here : (c : tie.Start) → EndsIn (sort c) (c .args .from) (c .args .to) (c .args .m)
+here c = ends-below (sort c) (now (c .args .bank)) (c .pre .sound) (lose-granted (sort c) _ (c .pre .free) .ends)
+
+-- the record ends in the bank
+fits : (c : tie.Start) → recordAt (sort c) (c .args .m) + recordSize (sort c) ≤ length (now (c .args .bank))
+fits c = rw (c .pre .sound .whole) (record-inside (sort c) (c .args .m) (here c .message))
+
+-- where the record is lent: the function's beginning
+abbrev start : tie.After-record-end → tie.Start
+start c = c .before .before .before
+
+within : (c : tie.After-record-end) → c .record-end .result ≤ length (now (start c .args .bank))
+within c =
+    subst (λ x. x ≤ length (now (start c .args .bank))) (sym (c .record-end .ensures)) (fits (start c))
 
 record-at-requires : tie.Need-record-at-requires
 record-at-requires c κs = search needs
 
-add-f : tie.Need-add-f
-add-f c = search needs
+record-end-requires : tie.Need-record-end-requires
+record-end-requires c κs = search needs
 
-add-f-2 : tie.Need-add-f-2
-add-f-2 c = search needs
+mul-lose : tie.Need-mul-lose
+mul-lose c = let h = within c in omega arith
 
-mul-without : tie.Need-mul-without
-mul-without c = search needs
+sub-lose : tie.Need-sub-lose
+sub-lose c = search needs
 
-below : (c : tie.Start) → (c .args .from < 16) × (c .args .to < 16) × (c .args .m < 32)
-below c =
-    let h = c .pre .free in
-    copy-below paper (now (c .args .bank)) (c .pre .sound) (h .0) (h .1 .0) (h .1 .1 .0)
+part-lose-start : tie.Need-part-lose-start
+part-lose-start c = search needs
 
-slice-read-without : tie.Need-slice-read-without
-slice-read-without c = omega (arith, below (c .before .before .before))
+part-lose-end : tie.Need-part-lose-end
+part-lose-end c = within c
 
-without-requires : tie.Need-without-requires
-without-requires c κs = search needs
-
-mul-bank : tie.Need-mul-bank
-mul-bank c = search needs
-
-slice-write-bank : tie.Need-slice-write-bank
-slice-write-bank c = omega (arith, below (c .before .before .before .before))
+lose-requires : tie.Need-lose-requires
+lose-requires c κs =
+    let e = here (start (c .before)) in
+    (simp (length-take, length-drop) (omega (arith, c .before .record-end .ensures, c .before .before .record-at .ensures, fits (start (c .before)))), e .second)
 
 same-length : tie.Need-same-length
 same-length c = search needs
 
 returns : tie.Need-returns
-returns c = rw (c .without .ensures, c .before .before .record-at .ensures)
+returns c =
+    let w = c .before .before .before .before in
+    let s = start w in
+    let L = sort s in
+    let e = here s in
+    rw (c .before .before .lose .ensures, w .before .record-at .ensures, w .record-end .ensures)
+    (lent-whole L (s .args .m) (now (s .args .bank)) (fits s) (lost (s .args .from) (s .args .to))
+    (lost-rests L (s .args .from) (e .second)) (lost-within L (s .args .from) (e .second)))
 
 pub lose-spec : {M : Type 1} → statement M
 lose-spec =
     tie.close
     (tie.spec
     record-at-requires
-    add-f
-    add-f-2
-    mul-without
-    slice-read-without
-    without-requires
-    mul-bank
-    slice-write-bank
+    record-end-requires
+    mul-lose
+    sub-lose
+    part-lose-start
+    part-lose-end
+    lose-requires
     same-length
     returns)

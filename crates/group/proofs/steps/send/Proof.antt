@@ -1,29 +1,47 @@
 -- send: the record is lent from the middle of the bank; writing there is writing in the bank.
-use borrow.Author.Needs.{needs}
-use mathlib.Core.Path.{ap, ap₂}
-use Prim.Native.Nat.{ℕ, _+_, _-_, _<_, _≤_}
+use mathlib.Core.Path.{sym, subst}
+use Prim.Native.Nat.{ℕ, _+_, _≤_}
 use native.Mathlib.Omega.{arith}
 use denote.Ref.{now}
-use Rattle.group.specs.Layout.{paper}
-use mathlib.Core.List.{[], _∷_}
 use lib.ListN.{length, length-take, length-drop}
-use Rattle.group.specs.Place.{_≔_, unsent, inFlight}
-use Rattle.group.specs.Layout.{recordAt}
+use Rattle.bank.specs.Layout.{Layout, layout, recordAt, recordSize}
+use Rattle.bank.proofs.Places.{record-inside}
+use Rattle.bank.proofs.Lending.{lent-whole}
 use Rattle.group.specs.Writes.{sent}
-use Rattle.sets.specs.Set.{with, without}
-use Rattle.group.proofs.Bounds.{copy-below}
-use Rattle.group.proofs.Lending.{part-word, lent}
+use Rattle.group.proofs.Granted.{send-granted}
+use Rattle.group.proofs.Bounds.{EndsIn, ends-below}
+use Rattle.group.proofs.Changes.{sent-rests, sent-within}
+use borrow.Author.Needs.{needs}
 use Rattle.group.proofs.steps.send.Statement.{statement}
 use Rattle.group.proofs.steps.send.Tie as tie
+
+-- the layout, and both ends and the message in it
+abbrev sort : tie.Start → Layout
+sort c = layout (c .args .room)
+
+here : (c : tie.Start) → EndsIn (sort c) (c .args .from) (c .args .to) (c .args .m)
+here c = ends-below (sort c) (now (c .args .bank)) (c .pre .sound) (send-granted (sort c) _ (c .pre .free) .ends)
+
+-- the record ends in the bank
+fits : (c : tie.Start) → recordAt (sort c) (c .args .m) + recordSize (sort c) ≤ length (now (c .args .bank))
+fits c = rw (c .pre .sound .whole) (record-inside (sort c) (c .args .m) (here c .message))
+
+-- where the record is lent: the function's beginning
+abbrev start : tie.After-record-end → tie.Start
+start c = c .before .before .before
+
+within : (c : tie.After-record-end) → c .record-end .result ≤ length (now (start c .args .bank))
+within c =
+    subst (λ x. x ≤ length (now (start c .args .bank))) (sym (c .record-end .ensures)) (fits (start c))
 
 record-at-requires : tie.Need-record-at-requires
 record-at-requires c κs = search needs
 
-add-e : tie.Need-add-e
-add-e c = search needs
+record-end-requires : tie.Need-record-end-requires
+record-end-requires c κs = search needs
 
 mul-send : tie.Need-mul-send
-mul-send c = search needs
+mul-send c = let h = within c in omega arith
 
 sub-send : tie.Need-sub-send
 sub-send c = search needs
@@ -31,46 +49,33 @@ sub-send c = search needs
 part-send-start : tie.Need-part-send-start
 part-send-start c = search needs
 
-below : (c : tie.Start) → (c .args .from < 16) × (c .args .to < 16) × (c .args .m < 32)
-below c =
-    let h = c .pre .free in
-    copy-below paper (now (c .args .bank)) (c .pre .sound) (h .0) (h .1 .0) (h .1 .1 .0)
-
 part-send-end : tie.Need-part-send-end
-part-send-end c = omega (arith, below (c .before .before), c .record-at .ensures)
+part-send-end c = within c
 
 send-requires : tie.Need-send-requires
 send-requires c κs =
-    let h = below (c .before .before .before) in
-    (simp (length-take, length-drop) (omega (arith, c .before .record-at .ensures)), h .0, h .1)
+    let e = here (start (c .before)) in
+    (simp (length-take, length-drop) (omega (arith, c .before .record-end .ensures, c .before .before .record-at .ensures, fits (start (c .before)))), e .first, e .second)
 
 same-length : tie.Need-same-length
 same-length c = search needs
 
 returns : tie.Need-returns
 returns c =
-    let s = c .before .before .before .before .before .before in
-    let h = below s in
-    let b = now (s .args .bank) in
-    let from : ℕ = s .args .from in
-    let to : ℕ = s .args .to in
-    let a : ℕ = recordAt paper (s .args .m) in
-    let k : ℕ = (a + 53) - a in
-    let fits : a + k ≤ length b = omega (arith, s .pre .sound .whole) in
-    let u : 21 + from < k = omega arith in
-    let f : 37 + to < k = omega arith in
-    rw (c .before .before .send .ensures, c .before .before .before .before .record-at .ensures)
-    (lent paper (s .args .m) k b (sent from to) fits
-    (ap₂ (λ x y. unsent from ≔ without x to ∷ inFlight to ≔ with y from ∷ []) (part-word a k b fits (21 + from) u)
-    (part-word a k b fits (37 + to) f))
-    (u, (f, tt)))
+    let w = c .before .before .before .before in
+    let s = start w in
+    let L = sort s in
+    let e = here s in
+    rw (c .before .before .send .ensures, w .before .record-at .ensures, w .record-end .ensures)
+    (lent-whole L (s .args .m) (now (s .args .bank)) (fits s) (sent (s .args .from) (s .args .to))
+    (sent-rests L (e .first) (e .second)) (sent-within L (e .first) (e .second)))
 
 pub send-spec : {M : Type 1} → statement M
 send-spec =
     tie.close
     (tie.spec
     record-at-requires
-    add-e
+    record-end-requires
     mul-send
     sub-send
     part-send-start

@@ -1,6 +1,8 @@
--- store: after k turns the first 2k bytes are those of the words and the rest are as they were.
-use Prim.Native.Nat.{_-_, _*_, _≤_}
+-- store: at every turn the first 2k bytes are those of the words and the rest are as they were. A turn writes the next
+-- word's two bytes (`store-more`), and past the last word all are written (`store-all`). What falls is the words left.
+use Prim.Native.Nat.{ℕ, _-_, _*_, _≤_}
 use mathlib.Core.Path.{_≡_, refl, _∙_}
+use mathlib.Core.List.{List}
 use native.Mathlib.Omega.{arith}
 use lib.ListN.{length, length-set}
 use Rattle.loargwen.specs.Bytes.{bytesOf}
@@ -8,15 +10,20 @@ use Rattle.loargwen.proofs.Crossing.{over, store-more, store-all}
 use Rattle.loargwen.proofs.bytes.store.Statement.{statement}
 use Rattle.loargwen.proofs.bytes.store.Tie as tie
 
+-- what holds when word k is reached
+record Turn (words bytes₀ bytes : List ℕ) (k : ℕ) : Type 0 where
+  inside : k ≤ length words
+  as-long : length bytes ≡ length bytes₀
+  written : bytes ≡ over (bytesOf words) bytes₀ (2 * k)
+
 abbrev Inv-loop : tie.InvT-loop
-Inv-loop words bytes₀ k₀ bytes k =
-    (k ≤ length words) × (length bytes ≡ length bytes₀) × (bytes ≡ over (bytesOf words) bytes₀ (2 * k))
+Inv-loop words bytes₀ k₀ bytes k = Turn words bytes₀ bytes k
 
 abbrev μ-loop : tie.MeasureT-loop
 μ-loop words bytes₀ k₀ bytes k = length words - k
 
 loop-holds : tie.Need-loop-holds Inv-loop μ-loop
-loop-holds c = (omega arith, refl, refl)
+loop-holds c = record { inside = omega arith; as-long = refl; written = refl }
 
 mul-w : tie.Need-mul-w Inv-loop μ-loop
 mul-w c = omega arith
@@ -53,19 +60,22 @@ loop-less c = omega arith
 
 loop-again : tie.Need-loop-again Inv-loop μ-loop
 loop-again c =
-    let l = c .before .before .loop in
-    let a = c .before .before .before .args in
-    let kept : length (l .bytes) ≡ length (a .bytes .now) = l .inv .1 in
+    let t = c .before .before in
+    let l = t .loop in
+    let a = t .before .args in
     let more = store-more (a .words .now) (a .bytes .now) (l .k) (omega arith) (omega arith) in
-    (omega arith, simp length-set kept, rw (l .inv .2) more)
+    record {
+      inside = omega arith;
+      as-long = simp length-set (l .inv .as-long);
+      written = rw (l .inv .written) more;
+    }
 
 same-length : tie.Need-same-length Inv-loop μ-loop
-same-length c = c .before .loop .inv .1
+same-length c = c .before .loop .inv .as-long
 
 returns : tie.Need-returns Inv-loop μ-loop
 returns c =
-    let l = c .before .loop in
-    l .inv .2 ∙ store-all _ _ (l .k) (c .before .before .pre) (omega arith)
+    let l = c .before .loop in l .inv .written ∙ store-all _ _ (l .k) (c .before .before .pre) (omega arith)
 
 pub store-spec : {M : Type 1} → statement M
 store-spec =

@@ -5,6 +5,13 @@ use Rattle.report.proofs.Printing.{_then_}
 use Rattle.report.proofs.lines.bank_lines.Statement.{statement}
 use Rattle.report.proofs.lines.bank_lines.Tie as tie
 
+-- where the messages' lines have been printed, from where the controllers' have; the group's line, from there
+abbrev messages : tie.After-controller-lines → tie.After-message-lines
+messages c = c .before .before .before .before
+
+abbrev group : tie.After-message-lines → tie.After-group-line
+group c = c .before .before .before .before
+
 group-line-requires : tie.Need-group-line-requires
 group-line-requires c κs = search needs
 
@@ -21,9 +28,8 @@ returns : tie.Need-returns
 unfolding bankLines
 returns c =
     let l = c .before .before in
-    let m = l .before .before .before .before in
-    let g = m .before .before .before .before in
-    g .group-line .ensures then m .message-lines .ensures then l .controller-lines .ensures
+    let m = messages l in
+    group m .group-line .ensures then m .message-lines .ensures then l .controller-lines .ensures
 
 pub bank-lines-spec : {M : Type 1} → statement M
 bank-lines-spec =

@@ -4,6 +4,16 @@ use borrow.Author.Needs.{needs}
 use Rattle.report.proofs.lines.end_line.Statement.{statement}
 use Rattle.report.proofs.lines.end_line.Tie as tie
 
+-- where the refusal is printed, from where the line ends; the steps, from there; the line's name, from there
+abbrev refusal : tie.After-put → tie.After-number
+refusal c = c .before .before .before .before
+
+abbrev steps : tie.After-number → tie.After-decimal
+steps c = c .before .before .before .before .before
+
+abbrev name : tie.After-decimal → tie.After-put-all
+name c = c .before .before .before .before
+
 slice-aggregate-put-all : tie.Need-slice-aggregate-put-all
 slice-aggregate-put-all c = search needs
 
@@ -27,11 +37,10 @@ same-length c = search needs
 
 returns : tie.Need-returns
 returns c =
-    let p = c .before .before in
-    let n = p .before .before .before .before in
-    let d = n .before .before .before .before .before in
-    let w = d .before .before .before .before in
-    w .put-all .ensures then d .decimal .ensures then n .number .ensures then p .put .ensures
+    let end = c .before .before in
+    let r = refusal end in
+    let k = steps r in
+    name k .put-all .ensures then k .decimal .ensures then r .number .ensures then end .put .ensures
 
 pub end-line-spec : {M : Type 1} → statement M
 end-line-spec =

@@ -1,6 +1,9 @@
--- entries: after i turns the first i entries are printed, each a blank and at most ten digits.
-use Prim.Native.Nat.{_*_, _-_, _≤_}
+-- entries: at every turn the first i entries are printed, each a blank and at most ten digits. A turn prints the next
+-- one after them (`one-more-entry`), and past the last entry they are the whole log's (`take-all`). What falls is the
+-- entries left.
+use Prim.Native.Nat.{ℕ, _*_, _-_, _≤_}
 use mathlib.Core.Path.{refl, ap}
+use mathlib.Core.List.{List}
 use native.Mathlib.Omega.{arith}
 use lib.ListN.{length, take}
 use lib.Seq.{take-all}
@@ -11,16 +14,24 @@ use Rattle.report.proofs.Rows.{one-more-entry}
 use Rattle.report.proofs.lines.entries.Statement.{statement}
 use Rattle.report.proofs.lines.entries.Tie as tie
 
+-- what holds when entry i is reached
+record Turn (log out₀ : List ℕ) (at i end : ℕ) (out : List ℕ) : Type 0 where
+  inside : i ≤ length log
+  printed : Prints (11 * i) out₀ at (Lines.entries (take i log)) end out
+
 abbrev Inv-loop : tie.InvT-loop
-Inv-loop out₀ at log end₀ i₀ t6 out end i =
-    (i ≤ length log) × Prints (11 * i) out₀ at (Lines.entries (take i log)) end out
+Inv-loop out₀ at log end₀ i₀ t6 out end i = Turn log out₀ at i end out
 
 abbrev μ-loop : tie.MeasureT-loop
 μ-loop out₀ at log end₀ i₀ t6 out end i = length log - i
 
+-- where the entry is printed: the turn's beginning, past its test
+abbrev turn : tie.After-number Inv-loop μ-loop → tie.In-loop Inv-loop μ-loop
+turn c = c .before .before .before .before
+
 loop-holds : tie.Need-loop-holds Inv-loop μ-loop
 unfolding Lines.entries
-loop-holds c = (omega arith, nothing)
+loop-holds c = record { inside = omega arith; printed = nothing }
 
 slice-aggregate-number : tie.Need-slice-aggregate-number Inv-loop μ-loop
 slice-aggregate-number c = refl
@@ -43,17 +54,20 @@ loop-less c = omega arith
 loop-again : tie.Need-loop-again Inv-loop μ-loop
 loop-again c =
     let n = c .before .before in
-    let t = n .before .before .before .before in
+    let t = turn n in
     let l = t .before .loop in
-    (omega arith, once-more (l .i) (l .inv .1) (n .number .ensures) (one-more-entry _ (l .i) (t .loop-test .taken)))
+    record {
+      inside = omega arith;
+      printed =
+          once-more (l .i) (l .inv .printed) (n .number .ensures) (one-more-entry _ (l .i) (t .loop-test .taken));
+    }
 
 same-length : tie.Need-same-length Inv-loop μ-loop
-same-length c = as-long-as (c .before .loop .inv .1)
+same-length c = as-long-as (c .before .loop .inv .printed)
 
 returns : tie.Need-returns Inv-loop μ-loop
 returns c =
-    let p = c .before .loop .inv .1 in
-    as-text (bounded p (omega arith)) (ap Lines.entries (take-all _ _ (c .loop-test .left)))
+    as-text (bounded (c .before .loop .inv .printed) (omega arith)) (ap Lines.entries (take-all _ _ (c .loop-test .left)))
 
 pub entries-spec : {M : Type 1} → statement M
 entries-spec =

@@ -4,6 +4,10 @@ use borrow.Author.Needs.{needs}
 use Rattle.report.proofs.lines.message_line.Statement.{statement}
 use Rattle.report.proofs.lines.message_line.Tie as tie
 
+-- where the head has been printed, from where the sets have
+abbrev head : tie.After-message-sets → tie.After-message-head
+head c = c .before .before .before .before
+
 message-head-requires : tie.Need-message-head-requires
 message-head-requires c κs = search needs
 
@@ -14,9 +18,7 @@ same-length : tie.Need-same-length
 same-length c = search needs
 
 returns : tie.Need-returns
-returns c =
-    let s = c .before .before in
-    s .before .before .before .before .message-head .ensures then s .message-sets .ensures
+returns c = let s = c .before .before in head s .message-head .ensures then s .message-sets .ensures
 
 pub message-line-spec : {M : Type 1} → statement M
 message-line-spec =

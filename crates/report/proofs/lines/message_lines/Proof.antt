@@ -1,8 +1,10 @@
--- message_lines: after m turns the lines of the first m messages are printed.
-use Prim.Native.Nat.{_-_, _≤_}
+-- message_lines: at every turn the lines of the first m messages are printed. A turn prints the next message's line
+-- after them (`one-more-row`), and past the last message they are all (`all-rows`). What falls is the messages left.
+use Prim.Native.Nat.{_-_}
 use native.Mathlib.Omega.{arith}
-use Rattle.group.specs.Place.{count}
-use Rattle.group.specs.Layout.{paper, words}
+use Rattle.bank.specs.Place.{count}
+use Rattle.bank.specs.Layout.{paper, words}
+use Rattle.bank.specs.Fit.{Fit}
 use Rattle.report.specs.Lines.{messageLine}
 use Rattle.report.proofs.Printing.{as-long-as}
 use Rattle.report.proofs.Rows.{Rows, no-rows, one-more-row, all-rows}
@@ -10,21 +12,30 @@ use Rattle.report.proofs.lines.message_lines.Statement.{statement}
 use Rattle.report.proofs.lines.message_lines.Tie as tie
 
 abbrev Inv-loop : tie.InvT-loop
-Inv-loop out₀ at bank n end₀ m₀ out end m = (m ≤ n) × Rows 87 (messageLine bank) m out₀ at end out
+Inv-loop out₀ at bank n end₀ m₀ out end m = Rows 87 (messageLine bank) (words paper bank count) m out₀ at end out
 
 abbrev μ-loop : tie.MeasureT-loop
-μ-loop out₀ at bank n end₀ m₀ out end m = n - m
+μ-loop out₀ at bank n end₀ m₀ out end m = words paper bank count - m
 
-shared-slice-read-count : tie.Need-shared-slice-read-count Inv-loop μ-loop
-shared-slice-read-count c = omega arith
+-- from the loop's beginning: the function's, and that the bank is fit
+abbrev start : tie.At-loop Inv-loop μ-loop → tie.Start Inv-loop μ-loop
+start c = c .before .before .before .before
+
+sound : (c : tie.At-loop Inv-loop μ-loop) → Fit paper (start c .args .bank .now)
+sound c = start c .pre .1
+
+-- where a turn's line has been printed: the turn's beginning
+abbrev turn : tie.After-message-line Inv-loop μ-loop → tie.At-loop Inv-loop μ-loop
+turn c = c .before .before .before
+
+word-requires : tie.Need-word-requires Inv-loop μ-loop
+word-requires c κs = tt
 
 loop-holds : tie.Need-loop-holds Inv-loop μ-loop
-loop-holds c = (omega arith, no-rows)
+loop-holds c = no-rows
 
 message-line-requires : tie.Need-message-line-requires Inv-loop μ-loop
-message-line-requires c κs =
-    let f = c .before .before .before .before .before .before .pre .1 in
-    (omega arith, omega arith, f)
+message-line-requires c κs = let f = sound (c .before .before) in omega arith
 
 add-m : tie.Need-add-m Inv-loop μ-loop
 add-m c = omega arith
@@ -34,17 +45,13 @@ loop-less c = omega arith
 
 loop-again : tie.Need-loop-again Inv-loop μ-loop
 loop-again c =
-    let p = c .before .before in
-    (omega arith, one-more-row (p .before .before .before .loop .inv .1) (p .message-line .ensures))
+    let p = c .before .before in one-more-row (turn p .loop .inv) (omega arith) (p .message-line .ensures)
 
 same-length : tie.Need-same-length Inv-loop μ-loop
-same-length c = as-long-as (c .before .loop .inv .1 .printed)
+same-length c = as-long-as (c .before .loop .inv .printed)
 
 returns : tie.Need-returns Inv-loop μ-loop
-returns c =
-    let s = c .before .before .before .before .before in
-    let f = s .pre .1 in
-    all-rows (c .before .loop .inv .1) (words paper (s .args .bank .now) count) (omega arith) (omega arith)
+returns c = let f = sound (c .before) in all-rows (c .before .loop .inv) (omega arith) (omega arith)
 
 pub message-lines-spec : {M : Type 1} → statement M
 message-lines-spec =
@@ -52,7 +59,7 @@ message-lines-spec =
     (tie.spec
     Inv-loop
     μ-loop
-    shared-slice-read-count
+    word-requires
     loop-holds
     message-line-requires
     add-m

@@ -1,26 +1,25 @@
 -- message_sets: its pieces one after another are the rest of the line.
-use Rattle.report.proofs.Printing.{_then_}
+use mathlib.Core.Path.{ap}
+use mathlib.Core.List.{_++_}
+use Rattle.report.specs.Text.{hex}
+use Rattle.report.specs.Lines.{sayHeld, sayDelivered}
+use Rattle.report.proofs.Printing.{as-text, _then_}
 use borrow.Author.Needs.{needs}
 use Rattle.report.proofs.lines.message_sets.Statement.{statement}
 use Rattle.report.proofs.lines.message_sets.Tie as tie
 
-mul-base : tie.Need-mul-base
-mul-base c = search needs
+-- where the delivered set is printed, from where the line ends, and where the held one is, from there
+abbrev delivered : tie.After-put → tie.After-set2
+delivered c = c .before .before .before .before
 
-add-base : tie.Need-add-base
-add-base c = search needs
+abbrev held : tie.After-set2 → tie.After-set
+held c = c .before .before .before .before .before .before
 
 slice-aggregate-set : tie.Need-slice-aggregate-set
 slice-aggregate-set c = search needs
 
-add-set : tie.Need-add-set
-add-set c = search needs
-
-mul-set : tie.Need-mul-set
-mul-set c = search needs
-
-shared-slice-read-set : tie.Need-shared-slice-read-set
-shared-slice-read-set c = search needs
+held-requires : tie.Need-held-requires
+held-requires c κs = search needs
 
 set-requires : tie.Need-set-requires
 set-requires c κs = search needs
@@ -28,14 +27,8 @@ set-requires c κs = search needs
 slice-aggregate-set-2 : tie.Need-slice-aggregate-set-2
 slice-aggregate-set-2 c = search needs
 
-add-set-2 : tie.Need-add-set-2
-add-set-2 c = search needs
-
-mul-set-2 : tie.Need-mul-set-2
-mul-set-2 c = search needs
-
-shared-slice-read-set-2 : tie.Need-shared-slice-read-set-2
-shared-slice-read-set-2 c = search needs
+delivered-requires : tie.Need-delivered-requires
+delivered-requires c κs = search needs
 
 set-requires-2 : tie.Need-set-requires-2
 set-requires-2 c κs = search needs
@@ -48,26 +41,22 @@ same-length c = search needs
 
 returns : tie.Need-returns
 returns c =
-    let p = c .before .before in
-    let s2 = p .before .before .before .before in
-    let s1 = s2 .before .before .before .before .before .before in
-    s1 .set .ensures then s2 .set2 .ensures then p .put .ensures
+    let end = c .before .before in
+    let d = delivered end in
+    let h = held d in
+    as-text (h .set .ensures) (ap (λ w. sayHeld ++ hex w) (h .before .held .ensures))
+    then as-text (d .set2 .ensures) (ap (λ w. sayDelivered ++ hex w) (d .before .delivered .ensures))
+    then end .put .ensures
 
 pub message-sets-spec : {M : Type 1} → statement M
 message-sets-spec =
     tie.close
     (tie.spec
-    mul-base
-    add-base
     slice-aggregate-set
-    add-set
-    mul-set
-    shared-slice-read-set
+    held-requires
     set-requires
     slice-aggregate-set-2
-    add-set-2
-    mul-set-2
-    shared-slice-read-set-2
+    delivered-requires
     set-requires-2
     put-requires
     same-length

@@ -1,9 +1,21 @@
 -- apply: the kind decides between the settler and a step, and each one's promise gives the state.
 use native.Mathlib.Omega.{arith}
 use borrow.Author.Needs.{needs}
+use Rattle.group.specs.Step.{Asked, ask}
 use Rattle.report.proofs.Playing.{applies-settle, applies-accepted, applies-refused}
 use Rattle.report.proofs.play.apply.Statement.{statement}
 use Rattle.report.proofs.play.apply.Tie as tie
+
+-- the record's numbers, from where its kind is tested
+abbrev numbers : tie.After-struct-known → Asked
+numbers c = let r = c .before .before .args .r in ask (r .kind) (r .a) (r .b) (r .c)
+
+-- where the settler has answered, and where a step has, from what comes of it
+abbrev settled : tie.After-struct-known2 → tie.After-settle
+settled c = c .before .before .before
+
+abbrev stepped : tie.After-slice-known3 → tie.After-step
+stepped c = c .before .before
 
 settle-requires : tie.Need-settle-requires
 settle-requires c κs = search needs
@@ -19,8 +31,9 @@ same-length c = search needs
 
 returns : tie.Need-returns
 returns c =
-    let t = c .before .before .before in
-    (applies-settle _ _ _ _ _ _ (t .before .before .if1 .taken) (t .settle .ensures), omega arith)
+    let t = settled c in
+    let k = t .before .before in
+    (applies-settle _ _ (numbers (k .before)) (k .if1 .taken) (t .settle .ensures), omega arith)
 
 step-requires : tie.Need-step-requires
 step-requires c κs = search needs
@@ -30,8 +43,9 @@ same-length-2 c = search needs
 
 returns-2 : tie.Need-returns-2
 returns-2 c =
-    let t = c .before .before .before in
-    (applies-refused _ _ _ _ _ _ (t .before .before .if1 .left) (t .step .ensures) (c .if2 .taken), omega arith)
+    let t = stepped (c .before) in
+    let k = t .before .before in
+    (applies-refused _ _ (numbers (k .before)) (k .if1 .left) (t .step .ensures) (c .if2 .taken), omega arith)
 
 add-t13 : tie.Need-add-t13
 add-t13 c = search needs
@@ -41,8 +55,9 @@ same-length-3 c = search needs
 
 returns-3 : tie.Need-returns-3
 returns-3 c =
-    let t = c .before .before .before in
-    (applies-accepted _ _ _ _ _ _ (t .before .before .if1 .left) (t .step .ensures) (c .if2 .left), omega arith)
+    let t = stepped (c .before) in
+    let k = t .before .before in
+    (applies-accepted _ _ (numbers (k .before)) (k .if1 .left) (t .step .ensures) (c .if2 .left), omega arith)
 
 pub apply-spec : {M : Type 1} → statement M
 apply-spec =

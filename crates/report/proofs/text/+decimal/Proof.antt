@@ -15,6 +15,7 @@ use Rattle.report.proofs.text.put.Reads as put
 use Rattle.report.proofs.text.+decimal.{statement}
 use Rattle.report.proofs.text.+decimal.Tie.{close}
 
+-- what falls: the third argument
 abbrev number : Measures 1 kinds.ps ℕ
 number κs a = a .1 .1 .0
 
@@ -23,6 +24,15 @@ at t = and 1 kinds.ps (is 1 kinds.ps number t) decimal.Pre
 
 abbrev below : ℕ → In 1 kinds.ps
 below t = and 1 kinds.ps (falls 1 kinds.ps _<_ number t) decimal.Pre
+
+-- where the digits before the last have been printed, from where the last is about to be; and the beginning, from there
+abbrev front : (t : ℕ) → lts.After-put-arg2 (put.Asked, put.Learnt, below t, decimal.Post) (at t) decimal.Post
+    → lts.After-decimal (put.Asked, put.Learnt, below t, decimal.Post) (at t) decimal.Post
+front t c = c .before .before .before
+
+abbrev start : (t : ℕ) → lts.After-decimal (put.Asked, put.Learnt, below t, decimal.Post) (at t) decimal.Post
+    → lts.Start (put.Asked, put.Learnt, below t, decimal.Post) (at t) decimal.Post
+start t c = c .before .before .before .before
 
 cast-put : (t : ℕ) → lts.Need-cast-put (put.Asked, put.Learnt, below t, decimal.Post) (at t) decimal.Post
 cast-put t c = omega arith
@@ -52,22 +62,21 @@ add-put-2 t c = omega arith
 
 put-requires-2 : (t : ℕ) → lts.Need-put-requires-2 (put.Asked, put.Learnt, below t, decimal.Post) (at t) decimal.Post
 put-requires-2 t c κs =
-    let d = c .before .before .before in
-    let x = d .before .before .before .before .args .x in
-    let front : length (Text.decimal (x / 10)) ≤ 9 = length-front x (d .before .before .if1 .left) (omega arith) in
+    let d = front t c in
+    let x = start t d .args .x in
+    let short : length (Text.decimal (x / 10)) ≤ 9 = length-front x (d .before .before .if1 .left) (omega arith) in
     omega arith
 
 same-length-2 : (t : ℕ) → lts.Need-same-length-2 (put.Asked, put.Learnt, below t, decimal.Post) (at t) decimal.Post
 same-length-2 t c =
     let p = c .before .before in
-    p .put2 .kept .0 ∙ p .before .before .before .before .decimal .kept .0
+    p .put2 .kept .0 ∙ front t (p .before) .decimal .kept .0
 
 returns-2 : (t : ℕ) → lts.Need-returns-2 (put.Asked, put.Learnt, below t, decimal.Post) (at t) decimal.Post
 returns-2 t c =
     let p = c .before .before in
-    let d = p .before .before .before .before in
-    let e = d .before .before in
-    let text = more-digits _ (e .if1 .left) (e .before .before .fits .x .fits) in
+    let d = front t (p .before) in
+    let text = more-digits _ (d .before .before .if1 .left) (start t d .fits .x .fits) in
     bounded (as-text (d .decimal .ensures then p .put2 .ensures) text) (length-decimal _)
 
 pub +decimal-spec : {M : Type 1} → statement M

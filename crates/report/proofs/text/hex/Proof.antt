@@ -12,6 +12,16 @@ digit : {m : ℕ} {out : List ℕ} {at x y r : ℕ} {out′ : List ℕ} → Prin
     → Prints m out at (y ∷ []) r out′
 digit p e = as-text p (ap (λ d. d ∷ []) e)
 
+-- where the third digit has been put, from where the last has; the second, from there; the first, from there
+abbrev third : tie.After-put4 → tie.After-put3
+third c = c .before .before .before .before .before
+
+abbrev second : tie.After-put3 → tie.After-put2
+second c = c .before .before .before .before .before
+
+abbrev first : tie.After-put2 → tie.After-put
+first c = c .before .before .before .before .before
+
 hex-digit-requires : tie.Need-hex-digit-requires
 hex-digit-requires c κs = search needs
 
@@ -42,9 +52,9 @@ same-length c = search needs
 returns : tie.Need-returns
 returns c =
     let p4 = c .before .before in
-    let p3 = p4 .before .before .before .before .before in
-    let p2 = p3 .before .before .before .before .before in
-    let p1 = p2 .before .before .before .before .before in
+    let p3 = third p4 in
+    let p2 = second p3 in
+    let p1 = first p2 in
     digit (p1 .put .ensures) (p1 .before .hex-digit .ensures)
     then digit (p2 .put2 .ensures) (p2 .before .hex-digit2 .ensures)
     then digit (p3 .put3 .ensures) (p3 .before .hex-digit3 .ensures)

@@ -4,6 +4,10 @@ use borrow.Author.Needs.{needs}
 use Rattle.report.proofs.text.number.Statement.{statement}
 use Rattle.report.proofs.text.number.Tie as tie
 
+-- where the name has been put, from where the digits are printed
+abbrev name : tie.After-decimal → tie.After-put-all
+name c = c .before .before .before .before
+
 put-all-requires : tie.Need-put-all-requires
 put-all-requires c κs = search needs
 
@@ -14,9 +18,7 @@ same-length : tie.Need-same-length
 same-length c = search needs
 
 returns : tie.Need-returns
-returns c =
-    let d = c .before .before in
-    d .before .before .before .before .put-all .ensures then d .decimal .ensures
+returns c = let d = c .before .before in name d .put-all .ensures then d .decimal .ensures
 
 pub number-spec : {M : Type 1} → statement M
 number-spec = tie.close (tie.spec put-all-requires decimal-requires same-length returns)

@@ -1,4 +1,5 @@
--- put_all: after i turns the first i bytes stand in the buffer.
+-- put_all: at every turn the first i bytes of the text stand in the buffer. A turn puts the next one after them
+-- (`one-more-byte`), and past the last byte they are the whole text (`all-bytes`). What falls is the bytes left.
 use Prim.Native.Nat.{_-_}
 use mathlib.Core.Path.{refl}
 use native.Mathlib.Omega.{arith}
@@ -12,6 +13,10 @@ Inv-loop out₀ at text i₀ out i = SoFar out₀ at text i out
 
 abbrev μ-loop : tie.MeasureT-loop
 μ-loop out₀ at text i₀ out i = length text - i
+
+-- where the byte has been put: the turn's beginning, past its test
+abbrev turn : tie.After-put Inv-loop μ-loop → tie.In-loop Inv-loop μ-loop
+turn c = c .before .before .before
 
 loop-holds : tie.Need-loop-holds Inv-loop μ-loop
 loop-holds c = record { few = omega arith; stand = refl }
@@ -33,8 +38,9 @@ loop-less c = omega arith
 
 loop-again : tie.Need-loop-again Inv-loop μ-loop
 loop-again c =
-    let t = c .before .before .before .before .before in
-    one-more-byte (t .before .loop .inv) (t .loop-test .taken) (c .before .before .put .ensures)
+    let p = c .before .before in
+    let t = turn p in
+    one-more-byte (t .before .loop .inv) (t .loop-test .taken) (p .put .ensures)
 
 add-result : tie.Need-add-result Inv-loop μ-loop
 add-result c = omega arith

@@ -3,11 +3,11 @@ use borrow.Author.Needs.{needs}
 use mathlib.Core.Path.{_≡_, sym, ap, _∙_}
 use mathlib.Core.Bool.{Bool}
 use mathlib.Core.List.{List, _++_, map}
-use Rattle.group.specs.Place.{N}
-use Rattle.group.specs.Layout.{paper, words}
+use Rattle.bank.specs.Place.{N}
+use Rattle.bank.specs.Layout.{layout, words}
 use Rattle.group.specs.Step.{Step, deliver}
 use Rattle.settler.specs.Candidates.{below, pairs, firstOf, free}
-use Rattle.settler.specs.Moves.{nextOf, copy}
+use Rattle.settler.specs.Moves.{nextOf, copyStep}
 use Rattle.settler.proofs.Free.{send-kind, receive-kind}
 use Rattle.settler.proofs.Taking.{take-joined, quiet-joined}
 use Rattle.settler.proofs.search.first_of_message.Statement.{statement}
@@ -15,16 +15,16 @@ use Rattle.settler.proofs.search.first_of_message.Tie as tie
 
 -- the three parts of the list, in their order, and the test
 abbrev sends : tie.Start → List Step
-sends c = pairs (words paper (c .args .bank .now) N) (copy 2 (c .args .m))
+sends c = pairs (words (layout (c .args .room)) (c .args .bank .now) N) (copyStep 2 (c .args .m))
 
 abbrev receipts : tie.Start → List Step
-receipts c = pairs (words paper (c .args .bank .now) N) (copy 3 (c .args .m))
+receipts c = pairs (words (layout (c .args .room)) (c .args .bank .now) N) (copyStep 3 (c .args .m))
 
 abbrev deliveries : tie.Start → List Step
-deliveries c = map (λ i. deliver i (c .args .m)) (below (words paper (c .args .bank .now) N))
+deliveries c = map (λ i. deliver i (c .args .m)) (below (words (layout (c .args .room)) (c .args .bank .now) N))
 
 abbrev allowed : tie.Start → Step → Bool
-allowed c = free paper (c .args .bank .now)
+allowed c = free (layout (c .args .room)) (c .args .bank .now)
 
 no-sends : (c : tie.After-enum-told) → let s = c .before .before .before .before in
     firstOf (allowed s) (sends s ++ (receipts s ++ deliveries s)) ≡ firstOf (allowed s) (receipts s ++ deliveries s)
@@ -33,7 +33,7 @@ no-sends c =
     quiet-joined (allowed s) (sends s) _ (sym (c .enum-told .given .1) ∙ c .before .before .first-copy .ensures)
 
 first-copy-requires : tie.Need-first-copy-requires
-first-copy-requires c κs = search (send-kind, receive-kind)
+first-copy-requires c κs = (c .before .pre, send-kind)
 
 enum-known-sent : tie.Need-enum-known-sent
 enum-known-sent c = search needs
@@ -48,7 +48,7 @@ enum-told : tie.Need-enum-told
 enum-told c = search needs
 
 first-copy-requires-2 : tie.Need-first-copy-requires-2
-first-copy-requires-2 c κs = search (send-kind, receive-kind)
+first-copy-requires-2 c κs = (c .before .before .before .before .pre, receive-kind)
 
 enum-known-received : tie.Need-enum-known-received
 enum-known-received c = search needs

@@ -1,7 +1,7 @@
 -- is_quiet: the search hands a step over just where one is left.
 use mathlib.Core.Path.{sym, _∙_}
 use mathlib.Core.Option.{Option}
-use Rattle.group.specs.Layout.{paper}
+use Rattle.bank.specs.Layout.{layout}
 use Rattle.group.specs.Step.{Step}
 use Rattle.settler.specs.Candidates.{next}
 use Rattle.settler.proofs.Taking.{quiet-none, take-some}
@@ -11,7 +11,7 @@ use Rattle.settler.proofs.search.is_quiet.Tie as tie
 
 -- what the search found
 abbrev found : tie.After-first-step → Option Step
-found c = next paper (c .before .before .args .bank .now)
+found c = let a = c .before .before .args in next (layout (a .room)) (a .bank .now)
 
 first-step-requires : tie.Need-first-step-requires
 first-step-requires c κs = search needs

@@ -1,8 +1,8 @@
 -- The numbers of run_steps's MIR by name: its sixteen locals, and the pieces of its body at which the walk stops.
 -- Read it before the walk, beside src/lib.rt: `at.index` is where the cell of `i` stands, `oneTurn` is the loop's body.
 -- No other file of the walk has a number of the MIR; `rt mir step_records` prints it.
-use Prim.Native.Nat.{ℕ}
-use mir.Syntax.{Body}
+use Prim.Native.Nat.{ℕ, zero, suc}
+use mir.Syntax.{Body, skip, seq, assign, block, loop, cond, switch, exit, return, call}
 use Rattle.step_records.proofs.Locals.{slot}
 use Rattle.step_records.proofs.run_steps.Code as code
 
@@ -28,6 +28,10 @@ pub record Slots : Type 0 where
 abbrev pub result : ℕ
 result = 0
 
+-- the local into which `group::step(..)` answers
+abbrev pub stepAnswer : ℕ
+stepAnswer = 5
+
 -- where the locals' cells stand, behind h other entries
 abbrev behind : ℕ → Slots
 behind h = record {
@@ -36,13 +40,13 @@ behind h = record {
   steps = slot h 2;  -- `steps`
   index = slot h 3;  -- `i`
   step = slot h 4;  -- `s`
-  refusal = slot h 5;  -- `r`
-  isFit = slot h 6;  -- `group::fit(bank)`
+  refusal = slot h stepAnswer;  -- `r`
+  isFit = slot h 6;  -- `bank::fit(bank)`
   startForFit = slot h 7;  -- where the bank lies, for that call
   bankForFit = slot h 8;  -- the bank as it is lent for that call
-  unfit = slot h 9;  -- `!group::fit(bank)`
+  unfit = slot h 9;  -- `!bank::fit(bank)`
   lengthThenOffset = slot h 10;  -- `steps.len()`, and once that is tested the bytes before `steps[i]`
-  test = slot h 11;  -- `i < steps.len()`, and once the step is asked for `r != 0`
+  test = slot h 11;  -- `i < steps.len()`, and once the step is asked for `r != Refusal::NONE`
   pointer = slot h 12;  -- where `steps[i]` lies
   element = slot h 13;  -- `steps[i]`
   startForStep = slot h 14;  -- where the bank lies, for `group::step(..)`
@@ -72,6 +76,27 @@ ofSteps = 1
 abbrev pub oneTurn : Body
 oneTurn = code.Mir.turn-1
 
--- what follows the loop: `Ran { accepted: i, refusal: 0 }`
+-- what follows the first statement of a body, and its first n
+abbrev tail : Body → Body
+tail (seq s b) = b
+tail skip = skip
+tail (assign p r) = skip
+tail (block b) = skip
+tail (loop b) = skip
+tail (cond x a b) = skip
+tail (switch x arms) = skip
+tail (exit n) = skip
+tail return = skip
+tail (call f xs p) = skip
+
+abbrev after : ℕ → Body → Body
+after zero b = b
+after (suc n) b = after n (tail b)
+
+-- what follows `let r = group::step(..);` in the loop's body; the test, the record and the call are ten statements
+abbrev pub afterStep : Body
+afterStep = after 10 oneTurn
+
+-- what follows the loop: `Ran { accepted: i, refusal: Refusal::NONE }`
 abbrev pub afterLoop : Body
 afterLoop = code.Mir.t-8

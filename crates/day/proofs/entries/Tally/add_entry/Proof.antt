@@ -3,7 +3,7 @@ use mathlib.Core.Path.{refl, sym, ap₂, _∙_}
 use native.Mathlib.Omega.{arith}
 use borrow.Author.Tests.{eq-eqb, ne-eqb}
 use borrow.Author.Needs.{needs}
-use Rattle.group.proofs.Rules.{pass, stop}
+use Rattle.bank.proofs.Rules.{pass, stop}
 use Rattle.day.specs.Days.{dayOf}
 use Rattle.day.specs.Tallies.{tallied}
 use Rattle.day.proofs.entries.Tally.add_entry.Statement.{statement}

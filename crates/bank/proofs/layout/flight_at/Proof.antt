@@ -1,0 +1,19 @@
+-- flight_at: where controller i's copies in flight stand in a record, size by size.
+use borrow.Author.Needs.{needs}
+use Rattle.bank.proofs.layout.flight_at.Statement.{statement}
+use Rattle.bank.proofs.layout.flight_at.Tie as tie
+
+add-result : tie.Need-add-result
+add-result c = search needs
+
+add-result-2 : tie.Need-add-result-2
+add-result-2 c = search needs
+
+returns : tie.Need-returns
+returns c = rw (c .if1 .taken)
+
+returns-2 : tie.Need-returns-2
+returns-2 c = rw (c .if1 .left)
+
+pub flight-at-spec : {M : Type 1} → statement M
+flight-at-spec = tie.close (tie.spec add-result add-result-2 returns returns-2)

@@ -1,0 +1,123 @@
+-- fit_in: the code makes the specification's tests in the same order, and the first that fails decides.
+use Prim.Native.Nat.{ℕ}
+use mathlib.Core.Path.{_≡_, sym, _∙_}
+use mathlib.Core.Bool.{Bool, true, _&&_}
+use mathlib.Core.List.{List}
+use borrow.Author.Needs.{needs}
+use borrow.Author.Tests.{eq-eqb, ne-eqb, le-leb, lt-leb, not-true, not-false}
+use lib.Dec.{leb}
+use lib.ListN.{length}
+use Rattle.sets.specs.Set.{every}
+use Rattle.bank.specs.Place.{N, mode, count}
+use Rattle.bank.specs.Layout.{Layout, layout, size, words}
+use Rattle.bank.specs.Fit.{fit, isSize, isMode, logFits}
+use Rattle.bank.proofs.unfit.fit_in.Statement.{statement}
+use Rattle.bank.proofs.unfit.fit_in.Tie as tie
+
+-- what is left of the test from the count on, and from the mode on
+abbrev fromCount : Layout → List ℕ → Bool
+fromCount L b = leb (words L b count) (L .messages) && every (logFits (words L b)) (words L b N)
+
+abbrev fromMode : Layout → List ℕ → Bool
+fromMode L b = isMode (words L b mode) && fromCount L b
+
+-- the bank as it was lent, and its layout, once its length is right
+abbrev lent : tie.Else1 → List ℕ
+lent c = c .before .before .before .args .bank .now
+
+abbrev sort : tie.Else1 → Layout
+sort c = layout (c .before .before .before .args .room)
+
+-- N was in range, the mode known: where the length was right
+abbrev at-size : tie.Else2 → tie.Else1
+at-size c = c .before .before .before
+
+abbrev at-known : tie.Else3 → tie.Else1
+at-known c = at-size (c .before .before .before)
+
+whole : (c : tie.Else1) → length (lent c) ≡ size (sort c)
+whole c = c .if1 .left ∙ c .before .size .ensures
+
+sized : (c : tie.Else2) → isSize (sort (at-size c)) (words (sort (at-size c)) (lent (at-size c)) N) ≡ true
+sized c =
+    rw (c .before .before .word .ensures) at (sym (c .before .is-size .ensures) ∙ not-false _ (c .if2 .left))
+
+from-mode : (c : tie.Else2) → fit (sort (at-size c)) (lent (at-size c)) ≡ fromMode (sort (at-size c)) (lent (at-size c))
+from-mode c = rw (eq-eqb _ _ (whole (at-size c)), sized c)
+
+from-count : (c : tie.Else3) → fit (sort (at-known c)) (lent (at-known c)) ≡ fromCount (sort (at-known c))
+    (lent (at-known c))
+from-count c =
+    let known =
+    rw (c .before .before .word2 .ensures) at (sym (c .before .is-mode .ensures) ∙ not-false _ (c .if3 .left)) in
+    from-mode (c .before .before .before) ∙ rw known
+
+size-requires : tie.Need-size-requires
+size-requires c κs = search needs
+
+returns : tie.Need-returns
+returns c = rw (ne-eqb _ _ (λ e. c .if1 .taken (e ∙ sym (c .before .size .ensures))))
+
+word-requires : tie.Need-word-requires
+word-requires c κs = search needs
+
+is-size-requires : tie.Need-is-size-requires
+is-size-requires c κs = search needs
+
+returns-2 : tie.Need-returns-2
+returns-2 c =
+    let outside =
+    rw (c .before .before .word .ensures) at (sym (c .before .is-size .ensures) ∙ not-true _ (c .if2 .taken)) in
+    rw (eq-eqb _ _ (whole (c .before .before .before)), outside)
+
+word-requires-2 : tie.Need-word-requires-2
+word-requires-2 c κs = search needs
+
+is-mode-requires : tie.Need-is-mode-requires
+is-mode-requires c κs = search needs
+
+returns-3 : tie.Need-returns-3
+returns-3 c =
+    let unknown =
+    rw (c .before .before .word2 .ensures) at (sym (c .before .is-mode .ensures) ∙ not-true _ (c .if3 .taken)) in
+    rw (from-mode (c .before .before .before), unknown)
+
+word-requires-3 : tie.Need-word-requires-3
+word-requires-3 c κs = search needs
+
+messages-requires : tie.Need-messages-requires
+messages-requires c κs = search needs
+
+returns-4 : tie.Need-returns-4
+returns-4 c =
+    let over = rw (c .before .messages .ensures, c .before .before .word3 .ensures) at (c .if4 .taken) in
+    rw (from-count (c .before .before .before), lt-leb _ _ over)
+
+logs-fit-requires : tie.Need-logs-fit-requires
+logs-fit-requires c κs = search needs
+
+returns-5 : tie.Need-returns-5
+returns-5 c =
+    let test = c .before in
+    let few = rw (test .before .messages .ensures, test .before .before .word3 .ensures) at (test .if4 .left) in
+    let passed = test .before .before .before in
+    let n = passed .before .before .before .before .before .word .ensures in
+    rw (from-count passed, le-leb _ _ few) (rw n at (c .logs-fit .ensures))
+
+pub fit-in-spec : {M : Type 1} → statement M
+fit-in-spec =
+    tie.close
+    (tie.spec
+    size-requires
+    returns
+    word-requires
+    is-size-requires
+    returns-2
+    word-requires-2
+    is-mode-requires
+    returns-3
+    word-requires-3
+    messages-requires
+    returns-4
+    logs-fit-requires
+    returns-5)

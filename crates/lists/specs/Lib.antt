@@ -1,0 +1,3 @@
+-- The definitions of lists and logs.
+pub mod Lists
+pub mod Logs
