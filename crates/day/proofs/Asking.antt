@@ -13,7 +13,7 @@ use Rattle.bank.specs.Place.{Words, message, stamp, value}
 use Rattle.bank.specs.Layout.{Layout, words}
 use Rattle.bank.specs.Fit.{fit}
 use Rattle.bank.specs.Rules.{Rule, _else_, firstBroken}
-use Rattle.group.specs.State.{isController, isMessage}
+use Rattle.refusals.specs.State.{isController, isMessage}
 use Rattle.lists.specs.Logs.{logRefusal, logOf}
 use Rattle.bank.proofs.Rules.{pass, stop, first-decides, rest-decides, all-hold, none-broken}
 use Rattle.day.specs.Days.{lastDay}

@@ -8,7 +8,7 @@ use Rattle.bank.specs.Place.{Words, message, stamp, value}
 use Rattle.bank.specs.Layout.{Layout, words}
 use Rattle.bank.specs.Fit.{fit}
 use Rattle.bank.specs.Rules.{_else_, firstBroken}
-use Rattle.group.specs.State.{isController, isMessage}
+use Rattle.refusals.specs.State.{isController, isMessage}
 use Rattle.lists.specs.Logs.{logOf}
 use Rattle.day.specs.Days.{dayOf, lastDay}
 use Rattle.day.specs.declared.entries.Tally.{Tally}

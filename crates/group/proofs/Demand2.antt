@@ -7,13 +7,14 @@ use native.Mathlib.Omega.{arith}
 use borrow.Author.Tests.{eq-eqb}
 use Rattle.bank.specs.Layout.{Layout}
 use Rattle.bank.specs.Opening.{answer}
-use Rattle.group.specs.Step.{Asked, Step, asked}
-use Rattle.group.specs.Promises.{Allowed, after, askedRefusal, askedAfter, refusalOf, stepOf}
+use Rattle.refusals.specs.Step.{Asked, Step, asked}
+use Rattle.refusals.specs.Promises.{Allowed, askedRefusal, refusalOf}
+use Rattle.group.specs.Promises.{after, askedAfter, stepOf}
 use Rattle.group.specs.Demand2.{Demand2}
 use Rattle.bank.proofs.Rules.{pass}
-use Rattle.group.proofs.StepRules.{allowed-free}
+use Rattle.refusals.proofs.StepRules.{allowed-free}
 use Rattle.bank.proofs.Fitness.{facts-fit}
-use Rattle.group.proofs.Accepted.{not-refused, allowed-step}
+use Rattle.refusals.proofs.Accepted.{not-refused, allowed-step}
 
 module _ (L : Layout) (b : List ℕ) (x : Asked) where
   -- a step that is asked for and not refused leaves its writes

@@ -5,8 +5,9 @@ use mathlib.Core.List.{List}
 use mathlib.Core.Option.{some}
 use Rattle.bank.specs.Layout.{Layout}
 use Rattle.bank.specs.Opening.{answer}
-use Rattle.group.specs.Step.{Step, Asked, asked}
-use Rattle.group.specs.Promises.{Allowed, after, stepOf}
+use Rattle.refusals.specs.Step.{Step, Asked, asked}
+use Rattle.refusals.specs.Promises.{Allowed}
+use Rattle.group.specs.Promises.{after, stepOf}
 
 -- of one call of step, on any bank and with any numbers
 pub record Demand2 (L : Layout) (b : List ℕ) (x : Asked) : Type 0 where

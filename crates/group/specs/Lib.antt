@@ -1,8 +1,4 @@
--- The definitions of the group's rules, in the order in which to read them.
-pub mod State
-pub mod Step
-pub mod Delivery
-pub mod Refusals
+-- The definitions of the group's steps, in the order in which to read them.
 pub mod Writes
 pub mod Promises
 pub mod Demand2

@@ -2,9 +2,10 @@
 // middle of the bank.
 ghost use mathlib.Core.Path.{_≡_};
 ghost use Rattle.bank.specs.Layout.{layout};
-ghost use Rattle.group.specs.Step;
-ghost use Rattle.group.specs.Step.{ask, asked};
-ghost use Rattle.group.specs.Promises.{Allowed, after, askedAfter, refusalOf};
+ghost use Rattle.refusals.specs.Step;
+ghost use Rattle.refusals.specs.Step.{ask, asked};
+ghost use Rattle.refusals.specs.Promises.{Allowed, refusalOf};
+ghost use Rattle.group.specs.Promises.{after, askedAfter};
 use crate::record;
 use bank::Bank;
 use bank::Room;

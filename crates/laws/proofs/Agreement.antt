@@ -8,10 +8,11 @@ use Rattle.sets.specs.Set.{has, countBelow}
 use Rattle.bank.specs.Place.{N, count, up, message, sender, held, delivered}
 use Rattle.bank.specs.Layout.{Layout, words}
 use Rattle.bank.specs.Fit.{Fit}
-use Rattle.group.specs.Step.{Step}
-use Rattle.group.specs.State.{isUp, holding, hasDelivered}
+use Rattle.refusals.specs.Step.{Step}
+use Rattle.refusals.specs.State.{isUp, holding, hasDelivered}
 use Rattle.lists.specs.Logs.{logOf}
-use Rattle.group.specs.Promises.{Allowed, after}
+use Rattle.refusals.specs.Promises.{Allowed}
+use Rattle.group.specs.Promises.{after}
 use Rattle.laws.specs.Runs.{Run, Ended, Settling}
 use Rattle.laws.specs.Logs.{occurs}
 use Rattle.laws.specs.Demand.{Reached, Finished, Quorum}

@@ -10,12 +10,12 @@ use Rattle.bank.specs.Place.{Field, Place, Words, N, mode, count, up, view, log
 use Rattle.bank.specs.Place.{held, delivered, acked, unsent, inFlight}
 use Rattle.bank.specs.Layout.{Layout, words, PlaceIn, FieldIn}
 use Rattle.bank.specs.Fit.{Fit}
-use Rattle.group.specs.Step.{Step, broadcast, send, receive, deliver, crash, detect, lose}
-use Rattle.group.specs.Delivery.{enough}
-use Rattle.group.specs.Promises.{Allowed}
-use Rattle.group.proofs.Granted.{Ends, broadcast-granted, send-granted, receive-granted, deliver-granted, crash-granted}
-use Rattle.group.proofs.Granted.{detect-granted, lose-granted, send-holds, receive-holds, deliver-holds, detect-holds}
-use Rattle.group.proofs.Bounds.{EndsIn, controller-below, message-below, ends-below}
+use Rattle.refusals.specs.Step.{Step, broadcast, send, receive, deliver, crash, detect, lose}
+use Rattle.refusals.specs.Delivery.{enough}
+use Rattle.refusals.specs.Promises.{Allowed}
+use Rattle.refusals.proofs.Granted.{Ends, broadcast-granted, send-granted, receive-granted, deliver-granted, crash-granted}
+use Rattle.refusals.proofs.Granted.{detect-granted, lose-granted, send-holds, receive-holds, deliver-holds, detect-holds}
+use Rattle.refusals.proofs.Bounds.{EndsIn, controller-below, message-below, ends-below}
 use Rattle.laws.proofs.Onward.{SettlingKind, sends, receives, delivers, detects}
 use Rattle.laws.proofs.Sets.{enoughOf, Named, Ok}
 use Rattle.laws.proofs.Enough.{one-test}

@@ -5,12 +5,13 @@ use Prim.Native.Nat.{ℕ, _+_}
 use borrow.Author.Tests.{ltb-true}
 use Rattle.bank.specs.Place.{Field, _≔_, N, count, message}
 use Rattle.bank.specs.Layout.{Layout, words, fields, inRecord, FieldIn, PlaceIn}
-use Rattle.group.specs.Step.{broadcast}
+use Rattle.refusals.specs.Step.{broadcast}
 use Rattle.group.specs.Writes.{fresh}
-use Rattle.group.specs.Promises.{Allowed, after}
+use Rattle.refusals.specs.Promises.{Allowed}
+use Rattle.group.specs.Promises.{after}
 use Rattle.laws.specs.Above.{RecordRewritten}
 use Rattle.bank.proofs.Reading.{later-append}
-use Rattle.group.proofs.Granted.{broadcast-granted}
+use Rattle.refusals.proofs.Granted.{broadcast-granted}
 use Rattle.group.proofs.WritesIn.{word-after}
 use Rattle.laws.proofs.Whole.{record-word}
 

@@ -10,8 +10,9 @@ use lib.ListN.{length}
 use borrow.Author.Tests.{eqb-true, eqb-false}
 use Rattle.bank.specs.Layout.{paper}
 use Rattle.bank.specs.Opening.{answer, openOf, OpenPromise}
-use Rattle.group.specs.Step.{Step, asked, Asked}
-use Rattle.group.specs.Promises.{Allowed, after, stepOf, refusalOf, StepPromise}
+use Rattle.refusals.specs.Step.{Step, asked, Asked}
+use Rattle.refusals.specs.Promises.{Allowed, refusalOf}
+use Rattle.group.specs.Promises.{after, stepOf, StepPromise}
 use Rattle.lists.specs.Lists.{outcome, runOf}
 use Rattle.group.proofs.Kept.{refused-leaves}
 use Rattle.bank.proofs.Fitness.{open-refused-leaves}

@@ -9,7 +9,7 @@ use lib.ListN.{length}
 use borrow.Author.Tests.{eq-eqb, ne-eqb, eqb-true, eqb-false}
 use Rattle.bank.specs.Layout.{paper, size}
 use Rattle.bank.specs.Opening.{answer, openOf}
-use Rattle.group.specs.Step.{Step}
+use Rattle.refusals.specs.Step.{Step}
 use Rattle.bank.proofs.Rules.{pass}
 use Rattle.group.proofs.Kept.{refused-leaves}
 use Rattle.bank.proofs.Fitness.{open-refused-leaves}
@@ -18,7 +18,8 @@ use Rattle.loargwen.specs.Bytes.{wordsOf, bytesOf}
 use Rattle.loargwen.specs.Face.{isBank, onBytes, flag, settledBytes, SettleBytes}
 use Rattle.loargwen.proofs.Crossing.{length-bytes}
 use Rattle.loargwen.proofs.Kept.{Left, answered, stored, handed-on, unchanged, open-left, step-left, settle-left}
-use Rattle.group.specs.Promises.{Allowed, after}
+use Rattle.refusals.specs.Promises.{Allowed}
+use Rattle.group.specs.Promises.{after}
 use Rattle.laws.specs.Runs.{Run}
 use Rattle.laws.specs.Demand.{Reached}
 use Rattle.laws.specs.Settler.{Tells}

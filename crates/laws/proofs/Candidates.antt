@@ -10,7 +10,7 @@ use native.Mathlib.Omega.{arith}
 use lib.Dec.{eqb}
 use borrow.Author.Tests.{eqb-true, eqb-false}
 use Rattle.bank.specs.Layout.{upFrom}
-use Rattle.group.specs.Step.{Step, send, receive, deliver, detect}
+use Rattle.refusals.specs.Step.{Step, send, receive, deliver, detect}
 use Rattle.settler.specs.Candidates.{below, each, pairs, ofMessage, candidates}
 use Rattle.laws.specs.Runs.{settles}
 use Rattle.laws.specs.Settler.{turn, InTurn}

@@ -11,10 +11,10 @@ use borrow.Author.Tests.{eq-eqb, eqb-true}
 use Rattle.bank.specs.Place.{N, count}
 use Rattle.bank.specs.Layout.{Layout, words}
 use Rattle.bank.specs.Fit.{Fit}
-use Rattle.group.specs.Step.{Step}
-use Rattle.group.specs.Refusals.{refusal}
-use Rattle.group.specs.Promises.{Allowed}
-use Rattle.group.proofs.StepRules.{free-step, allowed-free}
+use Rattle.refusals.specs.Step.{Step}
+use Rattle.refusals.specs.Refusals.{refusal}
+use Rattle.refusals.specs.Promises.{Allowed}
+use Rattle.refusals.proofs.StepRules.{free-step, allowed-free}
 use Rattle.settler.specs.Candidates.{candidates, firstOf, free, next}
 use Rattle.laws.specs.Runs.{Ended, Settling}
 use Rattle.laws.specs.Settler.{turn, InTurn}

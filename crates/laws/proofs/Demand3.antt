@@ -2,7 +2,7 @@
 use mathlib.Core.List.{List}
 use Prim.Native.Nat.{ℕ}
 use Rattle.bank.specs.Layout.{Layout}
-use Rattle.group.specs.Step.{Step}
+use Rattle.refusals.specs.Step.{Step}
 use Rattle.group.specs.Promises.{stepOf}
 use Rattle.laws.specs.Demand.{Reached}
 use Rattle.laws.specs.Demand3.{Demand3, PaperBound}

@@ -5,7 +5,7 @@ use Prim.Native.Nat.{ℕ, _*_, _<_}
 use native.Mathlib.Omega.{arith}
 use Rattle.sets.specs.Set.{howMany}
 use Rattle.bank.specs.Fit.{allAck, majority}
-use Rattle.group.specs.Step.{send, receive, deliver, detect}
+use Rattle.refusals.specs.Step.{send, receive, deliver, detect}
 use Rattle.laws.specs.Runs.{Ended, Settling}
 use Rattle.laws.proofs.Sets.{Sets, enoughOf, Ok, Quorate}
 use Rattle.laws.proofs.Enough.{enough-grows, enough-meets, quorum, all-trusted, more-than-half}

@@ -15,10 +15,11 @@ use Rattle.bank.specs.Place.{Place, N, mode, count, up, view, logLength, log, m
 use Rattle.bank.specs.Place.{sender, stamp, value, held, delivered, acked, unsent, inFlight}
 use Rattle.bank.specs.Layout.{Layout, words, PlaceIn}
 use Rattle.bank.specs.Fit.{Fit}
-use Rattle.group.specs.Step.{Step, broadcast, send, receive, deliver, crash, detect, lose}
-use Rattle.group.specs.State.{hasDelivered}
+use Rattle.refusals.specs.Step.{Step, broadcast, send, receive, deliver, crash, detect, lose}
+use Rattle.refusals.specs.State.{hasDelivered}
 use Rattle.lists.specs.Logs.{logOf}
-use Rattle.group.specs.Promises.{Allowed, after}
+use Rattle.refusals.specs.Promises.{Allowed}
+use Rattle.group.specs.Promises.{after}
 use Rattle.laws.specs.Runs.{Run, Ended, Settling}
 use Rattle.laws.specs.Logs.{occurs, LogsRight}
 use Rattle.laws.specs.Demand.{Reached, Finished, Alike}

@@ -7,8 +7,8 @@ use native.Mathlib.Omega.{arith}
 use Rattle.sets.specs.Set.{has, howMany}
 use Rattle.sets.proofs.Counts.{Common, common}
 use Rattle.bank.specs.Fit.{allAck}
-use Rattle.group.specs.Delivery.{enough}
-use Rattle.group.proofs.DeliveryTest.{by-mode, passes-all, all-pass, passes-most, most-pass, passes-on, enough-below}
+use Rattle.refusals.specs.Delivery.{enough}
+use Rattle.refusals.proofs.DeliveryTest.{by-mode, passes-all, all-pass, passes-most, most-pass, passes-on, enough-below}
 use Rattle.laws.proofs.Gathered.{gathered, gathered-count}
 use Rattle.laws.proofs.Sets.{Sets, enoughOf, Quorate}
 

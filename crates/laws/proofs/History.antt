@@ -13,8 +13,9 @@ use Rattle.bank.specs.Place.{Words, count, message, sender, stamp, value}
 use Rattle.bank.specs.Layout.{Layout, words}
 use Rattle.bank.specs.Fit.{isSize, isMode}
 use Rattle.bank.specs.Opening.{opened}
-use Rattle.group.specs.Step.{Step, broadcast, send, receive, deliver, crash, detect, lose}
-use Rattle.group.specs.Promises.{Allowed, after}
+use Rattle.refusals.specs.Step.{Step, broadcast, send, receive, deliver, crash, detect, lose}
+use Rattle.refusals.specs.Promises.{Allowed}
+use Rattle.group.specs.Promises.{after}
 use Rattle.bank.proofs.Places.{key}
 use Rattle.laws.proofs.Broadcast.{new-word, one-more}
 use Rattle.laws.specs.Runs.{Run}

@@ -6,7 +6,7 @@ use Prim.Native.Nat.{ℕ, _<_}
 use native.Mathlib.Omega.{arith}
 use lib.Dec.{eqb, ltb}
 use borrow.Author.Tests.{eq-eqb, lt-ltb, ltb-true}
-use Rattle.group.specs.Step.{Step, broadcast, send, receive, deliver, crash, detect, lose}
+use Rattle.refusals.specs.Step.{Step, broadcast, send, receive, deliver, crash, detect, lose}
 use Rattle.laws.specs.Runs.{Run, done, next}
 use Rattle.laws.proofs.Sets.{RecordSets, Sets, enoughOf, put, newRecord, act, inMessage, openSets, Ok}
 use Rattle.laws.proofs.Sets.{afterSend, afterReceive, afterDeliver, afterLose}

@@ -3,8 +3,9 @@ use mathlib.Core.Path.{subst}
 use mathlib.Core.List.{List}
 use Prim.Native.Nat.{ℕ}
 use Rattle.bank.specs.Layout.{Layout}
-use Rattle.group.specs.Step.{Step}
-use Rattle.group.specs.Promises.{Allowed, after}
+use Rattle.refusals.specs.Step.{Step}
+use Rattle.refusals.specs.Promises.{Allowed}
+use Rattle.group.specs.Promises.{after}
 use Rattle.laws.specs.Runs.{Run, done, next, Settling}
 use Rattle.laws.specs.Demand.{Reached}
 use Rattle.laws.proofs.Sets.{Sets, Ok, act, openSets}

@@ -10,9 +10,10 @@ use borrow.Author.Tests.{eq-eqb, eqb-true}
 use Rattle.bank.specs.Layout.{Layout, size}
 use Rattle.bank.specs.Fit.{fit, isSize, isMode}
 use Rattle.bank.specs.Opening.{opened, openOf}
-use Rattle.group.specs.Step.{asked, Asked, ask}
+use Rattle.refusals.specs.Step.{asked, Asked, ask}
 use Rattle.bank.specs.Rules.{_else_}
-use Rattle.group.specs.Promises.{Allowed, after, refusalOf, stepOf}
+use Rattle.refusals.specs.Promises.{Allowed, refusalOf}
+use Rattle.group.specs.Promises.{after, stepOf}
 use Rattle.lists.specs.Lists.{Outcome, outcome, runFrom, runOf}
 use Rattle.bank.proofs.Rules.{pass, all-hold}
 use Rattle.group.proofs.Demand2.{demand-2}

@@ -13,12 +13,13 @@ use Rattle.bank.specs.Place.{Words, N, count, logLength, log, message, delivere
 use Rattle.bank.specs.Layout.{Layout, words}
 use Rattle.bank.specs.Fit.{isSize, isMode}
 use Rattle.bank.specs.Opening.{opened}
-use Rattle.group.specs.Step.{Step, broadcast, send, receive, deliver, crash, detect, lose}
-use Rattle.group.specs.State.{isMessage, hasDelivered}
-use Rattle.group.specs.Promises.{Allowed, after}
+use Rattle.refusals.specs.Step.{Step, broadcast, send, receive, deliver, crash, detect, lose}
+use Rattle.refusals.specs.State.{isMessage, hasDelivered}
+use Rattle.refusals.specs.Promises.{Allowed}
+use Rattle.group.specs.Promises.{after}
 use Rattle.bank.proofs.Places.{Key, key}
 use Rattle.bank.proofs.Fitness.{fit-opened}
-use Rattle.group.proofs.Granted.{Delivers, deliver-granted}
+use Rattle.refusals.proofs.Granted.{Delivers, deliver-granted}
 use Rattle.group.proofs.WritesIn.{word-after}
 use Rattle.laws.proofs.Broadcast.{new-word, one-more}
 use Rattle.laws.specs.Runs.{Run}

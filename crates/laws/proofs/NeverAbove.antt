@@ -14,10 +14,11 @@ use Rattle.bank.specs.Place.{count, up, view, logLength, log, message}
 use Rattle.bank.specs.Layout.{Layout, words, PlaceIn}
 use Rattle.bank.specs.Fit.{isSize}
 use Rattle.bank.specs.Opening.{views, opening, opened, openOf}
-use Rattle.group.specs.Step.{Step, broadcast, send, receive, deliver, crash, detect, lose}
+use Rattle.refusals.specs.Step.{Step, broadcast, send, receive, deliver, crash, detect, lose}
 use Rattle.group.specs.Writes.{fresh}
-use Rattle.group.specs.Promises.{Allowed, after}
-use Rattle.group.proofs.Granted.{broadcast-granted}
+use Rattle.refusals.specs.Promises.{Allowed}
+use Rattle.group.specs.Promises.{after}
+use Rattle.refusals.proofs.Granted.{broadcast-granted}
 use Rattle.laws.specs.Above.{isSet, isSetField, Rewrites, BankRewritten, NoneAbove, NeverAbove}
 use Rattle.bank.proofs.Places.{Key}
 use Rattle.bank.proofs.Rules.{pass}

@@ -5,7 +5,7 @@ use mathlib.Core.List.{List, _++_}
 use Prim.Native.Nat.{ℕ}
 use native.Mathlib.Omega.{arith}
 use lib.ListN.{length}
-use Rattle.group.specs.Step.{Step, broadcast, send, receive, deliver, crash, detect, lose}
+use Rattle.refusals.specs.Step.{Step, broadcast, send, receive, deliver, crash, detect, lose}
 use Rattle.laws.specs.Runs.{Run, done, next, Settling, settles, settlings}
 
 pub go-on : {S E : Type 0} {allows : S → E → Type 0} {act : S → E → S} {s t u : S} {ds es : List E}

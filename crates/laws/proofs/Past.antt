@@ -10,12 +10,13 @@ use lib.Dec.{eqb, ltb}
 use borrow.Author.Tests.{eq-eqb, eqb-true, ltb-true, ltb-false}
 use Rattle.bank.specs.Place.{Place, Words, N, mode, count, up, logLength, log, message, stamp, value}
 use Rattle.bank.specs.Layout.{Layout, words, PlaceIn}
-use Rattle.group.specs.Step.{Step, broadcast, send, receive, deliver, crash, detect, lose}
+use Rattle.refusals.specs.Step.{Step, broadcast, send, receive, deliver, crash, detect, lose}
 use Rattle.group.specs.Writes.{writes}
-use Rattle.group.specs.Promises.{Allowed, after}
+use Rattle.refusals.specs.Promises.{Allowed}
+use Rattle.group.specs.Promises.{after}
 use Rattle.bank.proofs.Places.{key}
 use Rattle.bank.proofs.Reading.{later}
-use Rattle.group.proofs.Granted.{deliver-granted}
+use Rattle.refusals.proofs.Granted.{deliver-granted}
 use Rattle.group.proofs.WritesIn.{word-after}
 use Rattle.laws.specs.Runs.{Run, done, next, Settling}
 use Rattle.laws.proofs.Onward.{SettlingKind, sends, receives, delivers, detects, kind-of}

@@ -11,8 +11,9 @@ use Rattle.bank.specs.Place.{Place, Write, _≔_, N, mode, up}
 use Rattle.bank.specs.Layout.{Layout, size, address, words, PlaceIn}
 use Rattle.bank.specs.Fit.{Fit, isSize, isMode}
 use Rattle.bank.specs.Opening.{views, opening, opened}
-use Rattle.group.specs.Step.{Step}
-use Rattle.group.specs.Promises.{Allowed, after}
+use Rattle.refusals.specs.Step.{Step}
+use Rattle.refusals.specs.Promises.{Allowed}
+use Rattle.group.specs.Promises.{after}
 use Rattle.bank.proofs.Places.{Key, key, inside}
 use Rattle.bank.proofs.Reading.{later, words-after}
 use Rattle.bank.proofs.Views.{size-range}

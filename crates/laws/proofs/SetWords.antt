@@ -11,7 +11,7 @@ use Rattle.sets.proofs.Members.{has-with, has-without}
 use Rattle.bank.specs.Place.{Field, Place, Write, _≔_, sender, stamp, value, held, delivered, acked, unsent, inFlight}
 use Rattle.bank.specs.Place.{N, mode, count, up, view, logLength, log, message}
 use Rattle.bank.specs.Layout.{Layout, fields, inRecord}
-use Rattle.group.specs.Step.{Step, broadcast, send, receive, deliver, crash, detect, lose}
+use Rattle.refusals.specs.Step.{Step, broadcast, send, receive, deliver, crash, detect, lose}
 use Rattle.group.specs.Writes.{fresh, writes}
 use Rattle.laws.specs.Above.{isSet, ByMember, SetsByMember}
 

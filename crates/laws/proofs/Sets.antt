@@ -7,8 +7,8 @@ use mathlib.Core.Logic.{_⊎_}
 use lib.Dec.{eqb, ltb}
 use Rattle.sets.specs.Set.{setOf, howMany}
 use Rattle.bank.specs.Fit.{allAck}
-use Rattle.group.specs.Delivery.{enough}
-use Rattle.group.specs.Step.{Step, broadcast, send, receive, deliver, crash, detect, lose}
+use Rattle.refusals.specs.Delivery.{enough}
+use Rattle.refusals.specs.Step.{Step, broadcast, send, receive, deliver, crash, detect, lose}
 
 -- one message's record; of the sets that each controller has, the controller comes first, then the member
 pub record RecordSets : Type 0 where

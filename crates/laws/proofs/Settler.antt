@@ -10,8 +10,9 @@ use lib.ListN.{length}
 use Rattle.bank.specs.Place.{count}
 use Rattle.bank.specs.Layout.{Layout, words}
 use Rattle.bank.specs.Fit.{Fit}
-use Rattle.group.specs.Step.{Step}
-use Rattle.group.specs.Promises.{Allowed, after}
+use Rattle.refusals.specs.Step.{Step}
+use Rattle.refusals.specs.Promises.{Allowed}
+use Rattle.group.specs.Promises.{after}
 use Rattle.bank.proofs.Rules.{pass}
 use Rattle.bank.proofs.Fitness.{facts-fit}
 use Rattle.group.proofs.Kept.{fit-after}

@@ -8,8 +8,9 @@ use lib.ListN.{length}
 use Rattle.bank.specs.Place.{N, count}
 use Rattle.bank.specs.Layout.{Layout, paper, words}
 use Rattle.bank.specs.Fit.{Fit, fit}
-use Rattle.group.specs.Step.{Step}
-use Rattle.group.specs.Promises.{Allowed, after}
+use Rattle.refusals.specs.Step.{Step}
+use Rattle.refusals.specs.Promises.{Allowed}
+use Rattle.group.specs.Promises.{after}
 use Rattle.bank.proofs.Fitness.{fit-facts}
 use Rattle.settler.specs.Settling.{Ending, settleOf, SettlePromise}
 use Rattle.settler.proofs.Endings.{settle-unfit}

@@ -12,10 +12,11 @@ use Rattle.sets.specs.Set.{has}
 use Rattle.bank.specs.Place.{N, count, up, logLength, log, message, delivered}
 use Rattle.bank.specs.Layout.{Layout, words, upFrom}
 use Rattle.bank.specs.Fit.{Fit}
-use Rattle.group.specs.Step.{Step, broadcast, send, receive, deliver, crash, detect, lose}
-use Rattle.group.specs.State.{isUp, hasDelivered}
+use Rattle.refusals.specs.Step.{Step, broadcast, send, receive, deliver, crash, detect, lose}
+use Rattle.refusals.specs.State.{isUp, hasDelivered}
 use Rattle.lists.specs.Logs.{logOf}
-use Rattle.group.specs.Promises.{Allowed, after}
+use Rattle.refusals.specs.Promises.{Allowed}
+use Rattle.group.specs.Promises.{after}
 use Rattle.laws.specs.Runs.{Run, done, next}
 use Rattle.laws.proofs.Sets.{Sets, RecordSets, Ok, act, newRecord}
 use Rattle.laws.proofs.Sets.{afterSend, afterReceive, afterDeliver, afterLose}

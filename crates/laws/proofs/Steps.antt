@@ -8,12 +8,13 @@ use borrow.Author.Tests.{eqb-true}
 use Rattle.sets.specs.Set.{has, without}
 use Rattle.bank.specs.Place.{Field, Words, recordOf, Write, _≔_, N, mode, count, up, view, message}
 use Rattle.bank.specs.Layout.{Layout, words, inRecord, FieldIn}
-use Rattle.group.specs.Step.{Step, broadcast, send, receive, deliver, crash, detect, lose}
+use Rattle.refusals.specs.Step.{Step, broadcast, send, receive, deliver, crash, detect, lose}
 use Rattle.group.specs.Writes.{freshRecord, sent, received, lost, marked, writes}
-use Rattle.group.specs.Promises.{Allowed, after}
+use Rattle.refusals.specs.Promises.{Allowed}
+use Rattle.group.specs.Promises.{after}
 use Rattle.bank.proofs.Reading.{later, later-append}
-use Rattle.group.proofs.Granted.{broadcast-granted}
-use Rattle.group.proofs.Bounds.{controller-below}
+use Rattle.refusals.proofs.Granted.{broadcast-granted}
+use Rattle.refusals.proofs.Bounds.{controller-below}
 use Rattle.laws.proofs.Sets.{RecordSets, Sets, setsWith, inMessage, act}
 use Rattle.laws.proofs.Sets.{newRecord, afterSend, afterReceive, afterDeliver, afterLose}
 use Rattle.laws.proofs.Visible.{visible, seen-outside, seen-after}

@@ -7,7 +7,7 @@ use native.Mathlib.Decide.{ℕ-discrete}
 use lib.Dec.{eqb}
 use lib.ListN.{length}
 use borrow.Author.Tests.{eqb-true}
-use Rattle.group.specs.Step.{Step, send, receive, deliver, detect, step-discrete}
+use Rattle.refusals.specs.Step.{Step, send, receive, deliver, detect, step-discrete}
 use Rattle.laws.specs.Runs.{Run, Ended, Settling}
 use Rattle.laws.proofs.Sets.{RecordSets, Sets, enoughOf, cell, putAt, setsWith, inMessage, act, Ready, Ok}
 use Rattle.laws.proofs.Sets.{afterSend, afterReceive, afterDeliver}

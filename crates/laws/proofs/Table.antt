@@ -3,8 +3,9 @@ use mathlib.Core.Path.{refl}
 use Rattle.sets.specs.Set.{has, with, without, allBelow, cut, withAll, every, within, howMany, countBelow}
 use Rattle.bank.specs.Layout.{fields}
 use Rattle.bank.specs.Opening.{opened}
-use Rattle.group.specs.Delivery.{enough}
-use Rattle.group.specs.Promises.{refusalOf, stepOf}
+use Rattle.refusals.specs.Delivery.{enough}
+use Rattle.refusals.specs.Promises.{refusalOf}
+use Rattle.group.specs.Promises.{stepOf}
 use Rattle.lists.specs.Lists.{runFrom, runOf}
 use Rattle.settler.specs.Candidates.{candidates, next}
 use Rattle.settler.specs.Settling.{settleFrom, settleOf}

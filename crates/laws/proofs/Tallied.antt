@@ -8,9 +8,9 @@ use lib.Dec.{leb}
 use borrow.Author.Tests.{eq-eqb, lt-ltb, le-leb}
 use Rattle.bank.specs.Place.{Words, N, count}
 use Rattle.bank.specs.Layout.{Layout, words}
-use Rattle.group.specs.Step.{Step}
+use Rattle.refusals.specs.Step.{Step}
 use Rattle.bank.specs.Rules.{_else_}
-use Rattle.group.specs.State.{isController}
+use Rattle.refusals.specs.State.{isController}
 use Rattle.bank.specs.Fit.{fit}
 use Rattle.lists.specs.Logs.{logOf}
 use Rattle.bank.proofs.Rules.{none-broken}

@@ -6,8 +6,9 @@ use Prim.Native.Nat.{ℕ, zero, suc, _≤_}
 use native.Mathlib.Nat.{zero-add}
 use lib.ListN.{length}
 use Rattle.bank.specs.Layout.{Layout}
-use Rattle.group.specs.Step.{Step}
-use Rattle.group.specs.Promises.{Allowed, after}
+use Rattle.refusals.specs.Step.{Step}
+use Rattle.refusals.specs.Promises.{Allowed}
+use Rattle.group.specs.Promises.{after}
 use Rattle.settler.specs.Candidates
 use Rattle.settler.specs.Settling.{onNext, settleOf}
 use Rattle.laws.specs.Runs.{Run, Settling}

@@ -10,10 +10,11 @@ use borrow.Author.Tests.{ne-eqb, eqb-true, ltb-true, ltb-false}
 use Rattle.bank.specs.Place.{count, logLength}
 use Rattle.bank.specs.Layout.{Layout, words}
 use Rattle.bank.specs.Fit.{Fit}
-use Rattle.group.specs.Step.{Step, broadcast, send, receive, deliver, crash, detect, lose}
-use Rattle.group.specs.Promises.{Allowed, after}
-use Rattle.group.proofs.Granted.{deliver-granted}
-use Rattle.group.proofs.Bounds.{controller-below}
+use Rattle.refusals.specs.Step.{Step, broadcast, send, receive, deliver, crash, detect, lose}
+use Rattle.refusals.specs.Promises.{Allowed}
+use Rattle.group.specs.Promises.{after}
+use Rattle.refusals.proofs.Granted.{deliver-granted}
+use Rattle.refusals.proofs.Bounds.{controller-below}
 use Rattle.group.proofs.Kept.{fit-after}
 use Rattle.group.proofs.WritesIn.{word-after}
 use Rattle.settler.specs.Candidates.{next}

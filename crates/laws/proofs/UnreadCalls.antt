@@ -14,13 +14,14 @@ use Rattle.bank.specs.Place.{logLength, log, message, stamp, value}
 use Rattle.bank.specs.Layout.{Layout, size, address, words, upFrom}
 use Rattle.bank.specs.Fit.{Fit}
 use Rattle.bank.specs.Opening.{opened, openRefusal, openOf}
-use Rattle.group.specs.Step.{Step, ask}
-use Rattle.group.specs.Promises.{Allowed, after, stepOf}
+use Rattle.refusals.specs.Step.{Step, ask}
+use Rattle.refusals.specs.Promises.{Allowed}
+use Rattle.group.specs.Promises.{after, stepOf}
 use Rattle.lists.specs.Lists.{outcome, runFrom, runOf}
 use Rattle.lists.specs.Logs.{logRefusal, usedLength, logOf}
 use Rattle.bank.proofs.Rules.{stop}
 use Rattle.bank.proofs.Fitness.{fit-facts}
-use Rattle.group.proofs.Bounds.{message-below}
+use Rattle.refusals.proofs.Bounds.{message-below}
 use Rattle.group.proofs.Kept.{fit-after}
 use Rattle.lists.proofs.Asking.{log-asked}
 use Rattle.settler.specs.Candidates.{candidates, firstOf, next}

@@ -12,14 +12,15 @@ use Rattle.bank.specs.Place.{Words}
 use Rattle.bank.specs.Layout.{Layout, words}
 use Rattle.bank.specs.Fit.{isSize, isMode}
 use Rattle.bank.specs.Opening.{opened}
-use Rattle.group.specs.Step.{Step, broadcast, send, receive, deliver, crash, detect, lose, asked, Asked}
+use Rattle.refusals.specs.Step.{Step, broadcast, send, receive, deliver, crash, detect, lose, asked, Asked}
 use Rattle.bank.specs.Rules.{Rule, firstBroken, Holds}
-use Rattle.group.specs.State.{hasDelivered}
-use Rattle.group.specs.Refusals.{rules, refusal}
-use Rattle.group.specs.Promises.{Allowed, after, askedRefusal, refusalOf}
+use Rattle.refusals.specs.State.{hasDelivered}
+use Rattle.refusals.specs.Refusals.{rules, refusal}
+use Rattle.refusals.specs.Promises.{Allowed, askedRefusal, refusalOf}
+use Rattle.group.specs.Promises.{after}
 use Rattle.bank.proofs.Fitness.{facts-fit}
 use Rattle.bank.proofs.Rules.{pass}
-use Rattle.group.proofs.Granted.{due-granted}
+use Rattle.refusals.proofs.Granted.{due-granted}
 use Rattle.laws.specs.Runs.{Run}
 use Rattle.laws.proofs.Reached.{fit-run}
 use Rattle.laws.proofs.Logs.{delivered-room}

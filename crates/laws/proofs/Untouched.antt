@@ -7,9 +7,10 @@ use lib.Dec.{eqb, ltb}
 use borrow.Author.Tests.{eq-eqb}
 use Rattle.bank.specs.Place.{Place, Words, recordOf, N, count}
 use Rattle.bank.specs.Layout.{Layout, words, inRecord, PlaceIn}
-use Rattle.group.specs.Step.{Step, broadcast, send, receive, deliver, crash, detect, lose}
+use Rattle.refusals.specs.Step.{Step, broadcast, send, receive, deliver, crash, detect, lose}
 use Rattle.group.specs.Writes.{freshRecord, writes}
-use Rattle.group.specs.Promises.{Allowed, after}
+use Rattle.refusals.specs.Promises.{Allowed}
+use Rattle.group.specs.Promises.{after}
 use Rattle.bank.proofs.Places.{Key, key}
 use Rattle.bank.proofs.Names.{Aside, aside-append, record-aside, later-aside}
 use Rattle.group.proofs.WritesIn.{word-after}

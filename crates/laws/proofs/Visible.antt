@@ -11,13 +11,14 @@ use Rattle.sets.proofs.Tests.{both}
 use Rattle.bank.specs.Place.{Field, Place, Words, recordOf, Write, _≔_, held, delivered, acked, unsent, inFlight, N}
 use Rattle.bank.specs.Place.{mode, count, up, view, logLength, log, message}
 use Rattle.bank.specs.Layout.{Layout, recordWidths, words, inRecord, regionIn, index, PlaceIn, FieldIn}
-use Rattle.group.specs.Step.{Step, broadcast, send, receive, deliver, crash, detect, lose}
+use Rattle.refusals.specs.Step.{Step, broadcast, send, receive, deliver, crash, detect, lose}
 use Rattle.group.specs.Writes.{freshRecord, writes}
-use Rattle.group.specs.Promises.{Allowed, after}
+use Rattle.refusals.specs.Promises.{Allowed}
+use Rattle.group.specs.Promises.{after}
 use Rattle.bank.proofs.Places.{Key, key, samePlace}
 use Rattle.bank.proofs.Reading.{later, AllIn, words-after}
-use Rattle.group.proofs.Granted.{send-granted, receive-granted, deliver-granted, detect-granted, lose-granted}
-use Rattle.group.proofs.Bounds.{controller-below, message-below, ends-below}
+use Rattle.refusals.proofs.Granted.{send-granted, receive-granted, deliver-granted, detect-granted, lose-granted}
+use Rattle.refusals.proofs.Bounds.{controller-below, message-below, ends-below}
 use Rattle.group.proofs.WritesIn.{writes-in}
 use Rattle.bank.proofs.Names.{one-name}
 

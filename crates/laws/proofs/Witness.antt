@@ -14,13 +14,14 @@ use Rattle.bank.specs.Place.{count, message, delivered}
 use Rattle.bank.specs.Layout.{Layout, paper, words, fields}
 use Rattle.bank.specs.Fit.{Fit, isMode, allAck}
 use Rattle.bank.specs.Opening.{opened}
-use Rattle.group.specs.Step.{Step, send, receive, deliver, detect}
-use Rattle.group.specs.State.{isUp, hasDelivered}
-use Rattle.group.specs.Delivery.{enough}
+use Rattle.refusals.specs.Step.{Step, send, receive, deliver, detect}
+use Rattle.refusals.specs.State.{isUp, hasDelivered}
+use Rattle.refusals.specs.Delivery.{enough}
 use Rattle.lists.specs.Logs.{logOf}
-use Rattle.group.specs.Promises.{Allowed, after, refusalOf, stepOf}
+use Rattle.refusals.specs.Promises.{Allowed, refusalOf}
+use Rattle.group.specs.Promises.{after, stepOf}
 use Rattle.lists.specs.Lists.{runFrom, runOf}
-use Rattle.group.proofs.StepRules.{free-step}
+use Rattle.refusals.proofs.StepRules.{free-step}
 use Rattle.group.proofs.Kept.{fit-after}
 use Rattle.settler.specs.Candidates.{free, candidates}
 use Rattle.settler.specs.Candidates

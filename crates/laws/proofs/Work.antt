@@ -10,7 +10,7 @@ use native.Mathlib.Omega.{arith}
 use lib.Dec.{eqb}
 use lib.ListN.{length}
 use borrow.Author.Tests.{eq-eqb, ne-eqb}
-use Rattle.group.specs.Step.{Step, broadcast, send, receive, deliver, crash, detect, lose}
+use Rattle.refusals.specs.Step.{Step, broadcast, send, receive, deliver, crash, detect, lose}
 use Rattle.laws.specs.Runs.{Run, done, next, Settling, settlings, most, mostOfAny, settles}
 use Rattle.laws.proofs.Sets.{RecordSets, Sets, newRecord, act, inMessage, openSets, Ok}
 use Rattle.laws.proofs.Sets.{afterSend, afterReceive, afterDeliver, afterLose}

@@ -7,9 +7,10 @@ use mathlib.Core.Option.{Option, none, some}
 use lib.Dec.{eqb}
 use lib.ListN.{length}
 use Rattle.bank.specs.Layout.{paper}
-use Rattle.group.specs.Step.{Step, asked, Asked, ask}
+use Rattle.refusals.specs.Step.{Step, asked, Asked, ask}
 use Rattle.bank.specs.Opening.{openOf, OpenPromise}
-use Rattle.group.specs.Promises.{Allowed, after, stepOf, StepPromise}
+use Rattle.refusals.specs.Promises.{Allowed}
+use Rattle.group.specs.Promises.{after, stepOf, StepPromise}
 use Rattle.lists.specs.Lists.{runOf, RunPromise}
 use Rattle.settler.specs.Settling.{ending, settleOf, SettlePromise}
 use Rattle.step_records.specs.declared.Step.{Step as StepRecord}

@@ -6,9 +6,10 @@ use mathlib.Core.List.{List, []}
 use lib.Dec.{eqb}
 use lib.ListN.{length}
 use Rattle.bank.specs.Layout.{paper}
-use Rattle.group.specs.Step.{Step, asked, Asked}
+use Rattle.refusals.specs.Step.{Step, asked, Asked}
 use Rattle.bank.specs.Opening.{openOf}
-use Rattle.group.specs.Promises.{Allowed, after, stepOf}
+use Rattle.refusals.specs.Promises.{Allowed}
+use Rattle.group.specs.Promises.{after, stepOf}
 use Rattle.settler.specs.Settling.{ending, settleOf}
 use Rattle.loargwen.specs.Bytes.{wordsOf, bytesOf}
 use Rattle.loargwen.specs.Face.{onBytes, settleOnBytes, OpenBytes, StepBytes, SettleBytes}

@@ -10,9 +10,10 @@ use Rattle.bank.specs.Place.{Place, N, mode, up, logLength, log}
 use Rattle.bank.specs.Layout.{Layout, size, words, PlaceIn}
 use Rattle.bank.specs.Fit.{isSize, isMode, allAck}
 use Rattle.bank.specs.Opening.{opened}
-use Rattle.group.specs.Step.{Step}
+use Rattle.refusals.specs.Step.{Step}
 use Rattle.lists.specs.Logs.{logOf}
-use Rattle.group.specs.Promises.{Allowed, after}
+use Rattle.refusals.specs.Promises.{Allowed}
+use Rattle.group.specs.Promises.{after}
 use Rattle.laws.specs.Runs.{Run, Ended, Settling}
 use Rattle.laws.specs.Logs.{occurs}
 

@@ -7,10 +7,11 @@ use lib.ListN.{length}
 use Rattle.bank.specs.Place.{N, mode, count, up, message, sender}
 use Rattle.bank.specs.Layout.{Layout, words}
 use Rattle.bank.specs.Fit.{Fit}
-use Rattle.group.specs.Step.{Step, Asked}
-use Rattle.group.specs.State.{isUp, hasDelivered}
+use Rattle.refusals.specs.Step.{Step, Asked}
+use Rattle.refusals.specs.State.{isUp, hasDelivered}
 use Rattle.lists.specs.Logs.{logOf}
-use Rattle.group.specs.Promises.{Allowed, after, stepOf}
+use Rattle.refusals.specs.Promises.{Allowed}
+use Rattle.group.specs.Promises.{after, stepOf}
 use Rattle.settler.specs.Settling.{settleOf}
 use Rattle.day.specs.Days.{lastDay}
 use Rattle.day.specs.Tallies.{tallyRefusal}

@@ -5,7 +5,7 @@ use mathlib.Core.List.{List, [], _∷_, _++_}
 use lib.ListN.{length, getD}
 use Rattle.bank.specs.Place.{count, message, sender, stamp, value}
 use Rattle.bank.specs.Layout.{Layout, words}
-use Rattle.group.specs.Step.{Step, broadcast, send, receive, deliver, crash, detect, lose}
+use Rattle.refusals.specs.Step.{Step, broadcast, send, receive, deliver, crash, detect, lose}
 
 -- one broadcast: by whom, with which stamp and which value
 pub record Said : Type 0 where

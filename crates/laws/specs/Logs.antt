@@ -7,7 +7,7 @@ use lib.Dec.{eqb}
 use Rattle.sets.specs.Set.{howMany}
 use Rattle.bank.specs.Place.{N, count, logLength}
 use Rattle.bank.specs.Layout.{Layout, words}
-use Rattle.group.specs.State.{hasDelivered}
+use Rattle.refusals.specs.State.{hasDelivered}
 use Rattle.lists.specs.Logs.{logOf}
 
 -- how often a number stands in a list

@@ -3,7 +3,7 @@ use Prim.Native.Nat.{ℕ, _+_, _-_, _*_}
 use mathlib.Core.Path.{_≡_}
 use mathlib.Core.Bool.{Bool, true, false, cond}
 use mathlib.Core.List.{List, [], _∷_}
-use Rattle.group.specs.Step.{Step, broadcast, send, receive, deliver, crash, detect, lose}
+use Rattle.refusals.specs.Step.{Step, broadcast, send, receive, deliver, crash, detect, lose}
 
 -- a list of steps leads from a state to a state: `allows` says what a state allows, `act` what a step makes of it
 pub data Run {S E : Type 0} (allows : S → E → Type 0) (act : S → E → S) : S → List E → S → Type 0 where

@@ -7,8 +7,9 @@ use lib.ListN.{length}
 use Rattle.bank.specs.Place.{N, count}
 use Rattle.bank.specs.Layout.{Layout, paper, words}
 use Rattle.bank.specs.Fit.{Fit}
-use Rattle.group.specs.Step.{Step}
-use Rattle.group.specs.Promises.{Allowed, after}
+use Rattle.refusals.specs.Step.{Step}
+use Rattle.refusals.specs.Promises.{Allowed}
+use Rattle.group.specs.Promises.{after}
 use Rattle.settler.specs.Settling.{settleOf, SettlePromise}
 use Rattle.loargwen.specs.Face.{SettleBytes}
 use Rattle.laws.specs.Runs.{Run, Settling, mostOfAny}

@@ -7,8 +7,8 @@ use mathlib.Core.Bool.{true}
 use mathlib.Core.List.{List, [], _∷_}
 use Rattle.bank.specs.Layout.{paper, words}
 use Rattle.bank.specs.Opening.{opened}
-use Rattle.group.specs.Step.{Step}
-use Rattle.group.specs.State.{isUp}
+use Rattle.refusals.specs.Step.{Step}
+use Rattle.refusals.specs.State.{isUp}
 use Rattle.lists.specs.Lists.{Outcome, runOf}
 use Rattle.lists.specs.Logs.{logOf}
 use Rattle.settler.specs.Settling.{Ending, settleOf}

@@ -11,7 +11,7 @@ use Rattle.sets.proofs.Counts.{every-at}
 use Rattle.bank.specs.Place.{N, count, logLength}
 use Rattle.bank.specs.Layout.{Layout, words}
 use Rattle.bank.specs.Fit.{Fit, fit, logFits}
-use Rattle.group.specs.State.{isController}
+use Rattle.refusals.specs.State.{isController}
 use Rattle.lists.specs.Logs.{logRefusal, usedLength}
 use Rattle.bank.proofs.Rules.{pass, stop}
 use Rattle.bank.proofs.Fitness.{fit-facts}

@@ -12,8 +12,9 @@ use borrow.Author.Tests.{eq-eqb, ne-eqb}
 use Rattle.bank.specs.Layout.{Layout}
 use Rattle.bank.specs.Fit.{fit}
 use Rattle.bank.specs.Opening.{Answer, answer}
-use Rattle.group.specs.Step.{Asked, ask}
-use Rattle.group.specs.Promises.{refusalOf, stepOf}
+use Rattle.refusals.specs.Step.{Asked, ask}
+use Rattle.refusals.specs.Promises.{refusalOf}
+use Rattle.group.specs.Promises.{stepOf}
 use Rattle.lists.specs.Lists.{Outcome, outcome, runFrom, runOf}
 use Rattle.bank.proofs.Rules.{pass, stop}
 use Rattle.group.proofs.Kept.{refused-leaves}

@@ -7,8 +7,9 @@ use lib.Dec.{eqb}
 use lib.ListN.{length}
 use Rattle.bank.specs.Layout.{Layout}
 use Rattle.bank.specs.Fit.{fit}
-use Rattle.group.specs.Step.{ask}
-use Rattle.group.specs.Promises.{refusalOf, stepOf}
+use Rattle.refusals.specs.Step.{ask}
+use Rattle.refusals.specs.Promises.{refusalOf}
+use Rattle.group.specs.Promises.{stepOf}
 
 -- how many steps were accepted, the refusal that ended the list or 0, and the bank afterwards
 pub record Outcome : Type 0 where

@@ -9,7 +9,7 @@ use Rattle.bank.specs.Place.{logLength, log}
 use Rattle.bank.specs.Layout.{Layout, address, words}
 use Rattle.bank.specs.Fit.{fit}
 use Rattle.bank.specs.Rules.{_else_, firstBroken}
-use Rattle.group.specs.State.{isController}
+use Rattle.refusals.specs.State.{isController}
 
 abbrev pub logRefusal : Layout → List ℕ → ℕ → ℕ
 logRefusal L b who = firstBroken (fit L b else 1 ∷ isController (words L b) who else 3 ∷ [])

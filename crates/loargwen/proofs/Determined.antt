@@ -3,7 +3,7 @@ use Prim.Native.Nat.{ℕ}
 use mathlib.Core.Path.{_≡_, sym, ap, _∙_}
 use mathlib.Core.List.{List}
 use Rattle.bank.proofs.Determined.{one-answer}
-use Rattle.group.specs.Step.{Asked}
+use Rattle.refusals.specs.Step.{Asked}
 use Rattle.loargwen.specs.Face.{OpenBytes, StepBytes, SettleBytes, TallyBytes}
 
 pub open-bytes-determined : (bytes : List ℕ) (n k : ℕ) {r s : ℕ} {c d : List ℕ} → OpenBytes bytes n k r c

@@ -6,7 +6,7 @@ use mathlib.Core.List.{List}
 use native.Mathlib.Omega.{arith}
 use Rattle.bank.specs.Layout.{paper}
 use Rattle.bank.specs.Opening.{Answer, answer, openOf}
-use Rattle.group.specs.Step.{Asked}
+use Rattle.refusals.specs.Step.{Asked}
 use Rattle.group.specs.Promises.{stepOf}
 use Rattle.settler.specs.Settling.{settleOf}
 use Rattle.loargwen.specs.Bytes.{wordsOf, bytesOf}

@@ -7,7 +7,7 @@ use lib.Dec.{eqb}
 use lib.ListN.{length}
 use Rattle.bank.specs.Layout.{paper, size}
 use Rattle.bank.specs.Opening.{Answer, answer, openOf}
-use Rattle.group.specs.Step.{Asked}
+use Rattle.refusals.specs.Step.{Asked}
 use Rattle.group.specs.Promises.{stepOf}
 use Rattle.settler.specs.Settling.{Ending, settleOf}
 use Rattle.day.specs.Tallies

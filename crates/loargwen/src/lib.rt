@@ -6,7 +6,7 @@ mod bytes;
 ghost use mathlib.Core.Path.{_≡_};
 ghost use Prim.Native.Nat.{_*_};
 ghost use Rattle.bank.specs.Layout.{paper, size};
-ghost use Rattle.group.specs.Step.{ask};
+ghost use Rattle.refusals.specs.Step.{ask};
 ghost use Rattle.loargwen.specs.Face;
 ghost use Rattle.loargwen.specs.Face.{OpenBytes, StepBytes, SettleBytes, TallyBytes};
 use bank::Bank;

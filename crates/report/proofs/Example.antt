@@ -5,8 +5,9 @@ use mathlib.Core.List.{List, [], _∷_}
 use Rattle.sets.specs.Set.{has, with, without, allBelow, cut, withAll, every, within, howMany, countBelow}
 use Rattle.bank.specs.Layout.{fields}
 use Rattle.bank.specs.Opening.{opened, openOf}
-use Rattle.group.specs.Delivery.{enough}
-use Rattle.group.specs.Promises.{refusalOf, stepOf}
+use Rattle.refusals.specs.Delivery.{enough}
+use Rattle.refusals.specs.Promises.{refusalOf}
+use Rattle.group.specs.Promises.{stepOf}
 use Rattle.settler.specs.Candidates.{candidates, next}
 use Rattle.settler.specs.Settling.{settleFrom, settleOf}
 use Rattle.file.specs.Records.{recordLength, findAt, begun}

@@ -11,7 +11,7 @@ use borrow.Author.Tests.{eq-eqb, ne-eqb}
 use Rattle.bank.specs.Layout.{paper}
 use Rattle.bank.specs.Fit.{fit}
 use Rattle.bank.specs.Opening.{answer}
-use Rattle.group.specs.Step.{Asked, ask}
+use Rattle.refusals.specs.Step.{Asked, ask}
 use Rattle.group.specs.Promises.{stepOf}
 use Rattle.bank.proofs.Rules.{pass, stop}
 use Rattle.group.proofs.Kept.{fit-step}

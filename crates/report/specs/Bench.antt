@@ -8,7 +8,7 @@ use lib.ListN.{length, replicate}
 use lib.Seq.{sets}
 use Rattle.bank.specs.Layout.{paper, size}
 use Rattle.bank.specs.Opening.{Answer, openOf}
-use Rattle.group.specs.Step.{Asked, ask}
+use Rattle.refusals.specs.Step.{Asked, ask}
 use Rattle.group.specs.Promises.{stepOf}
 use Rattle.settler.specs.Settling.{Ending, settleOf}
 use Rattle.file.specs.Records.{Found, end, bad, got, wordAt, settleKind, findAt, begun}

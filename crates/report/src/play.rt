@@ -3,7 +3,7 @@
 ghost use mathlib.Core.Path.{_≡_};
 ghost use Prim.Native.Nat.{_+_, _≤_, _<_, _^_};
 ghost use lib.ListN.{length};
-ghost use Rattle.group.specs.Step.{ask};
+ghost use Rattle.refusals.specs.Step.{ask};
 ghost use Rattle.report.specs.Bench.{state, applied, playFrom};
 use file::Found;
 use file::Record;

@@ -8,7 +8,7 @@ use native.Mathlib.Nat.{zero-add, add-zero, suc-add, add-assoc}
 use native.Mathlib.Omega.{arith}
 use Rattle.bank.specs.Layout.{Layout}
 use Rattle.bank.specs.Fit.{Fit, fit}
-use Rattle.group.specs.Step.{Step}
+use Rattle.refusals.specs.Step.{Step}
 use Rattle.group.specs.Promises.{after}
 use Rattle.bank.proofs.Rules.{pass, stop}
 use Rattle.bank.proofs.Fitness.{fit-facts, facts-fit}

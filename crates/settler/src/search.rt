@@ -6,7 +6,7 @@ ghost use mathlib.Core.Bool.{true, false};
 ghost use Prim.Native.Nat.{_<_};
 ghost use Rattle.bank.specs.Place.{N, count, message};
 ghost use Rattle.bank.specs.Layout.{layout, words};
-ghost use Rattle.group.specs.Step.{detect, deliver};
+ghost use Rattle.refusals.specs.Step.{detect, deliver};
 ghost use Rattle.settler.specs.Candidates;
 ghost use Rattle.settler.specs.Candidates.{below, pairs, ofMessage, firstOf, free};
 ghost use Rattle.settler.specs.Moves.{nextOf, CopyKind, copyStep, copySet};
@@ -106,7 +106,7 @@ fn first_deliver(bank: &[u16], room: Room, m: u16) -> Next
     let n = bank::word(bank, Bank::N);
     let mut i = 0;
     while i < n {
-        if group::delivery_refusal(bank, room, i, m) == Refusal::NONE {
+        if refusals::delivery_refusal(bank, room, i, m) == Refusal::NONE {
             return Next::Take(Move {
                 kind: Kind::DELIVER,
                 a: i,

@@ -11,7 +11,7 @@ use lib.ListN.{length, getD, drop, drop-of-length-le}
 use lib.Seq.{drop-cons}
 use Rattle.bank.specs.Layout.{Layout}
 use Rattle.bank.specs.Fit.{fit}
-use Rattle.group.specs.Step.{Asked, ask}
+use Rattle.refusals.specs.Step.{Asked, ask}
 use Rattle.group.specs.Promises.{StepPromise}
 use Rattle.lists.specs.Lists.{outcome, runFrom, runOf}
 use Rattle.lists.proofs.StepByStep.{run-begins, run-more, run-stop}

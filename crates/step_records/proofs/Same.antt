@@ -11,12 +11,13 @@ use lib.Dec.{eqb}
 use Rattle.bank.specs.Layout.{Layout, paper, words}
 use Rattle.bank.specs.Fit.{fit}
 use Rattle.bank.proofs.Rules as Rules
-use Rattle.group.specs.Step as Steps
-use Rattle.group.specs.Refusals.{rules}
-use Rattle.group.specs.Promises.{askedRefusal, refusalOf, stepOf}
+use Rattle.refusals.specs.Step as Steps
+use Rattle.refusals.specs.Refusals.{rules}
+use Rattle.refusals.specs.Promises.{askedRefusal, refusalOf}
+use Rattle.group.specs.Promises.{stepOf}
 use Rattle.lists.specs.Lists.{Outcome, outcome, runFrom, runOf, RunPromise}
 use Rattle.lists.proofs.Determined.{run-determined}
-use Rattle.group.proofs.StepRules.{rules-numbered}
+use Rattle.refusals.proofs.StepRules.{rules-numbered}
 use Rattle.lists.proofs.StepByStep.{run-unfit}
 use Rattle.step_records.specs.declared.Step.{Step}
 use Rattle.step_records.specs.Records.{flat, StepsPromise}

@@ -1,8 +1,8 @@
 // The calls that the C face has not, on words, for the tests: lists, what refuses a step, and the two questions about
 // a log. Each is thin over the group's call. No part of the product: nothing installs its archive.
 ghost use Rattle.bank.specs.Layout.{paper};
-ghost use Rattle.group.specs.Step.{ask};
-ghost use Rattle.group.specs.Promises.{RefusalPromise};
+ghost use Rattle.refusals.specs.Step.{ask};
+ghost use Rattle.refusals.specs.Promises.{RefusalPromise};
 ghost use Rattle.lists.specs.Lists.{RunPromise};
 ghost use Rattle.lists.specs.Logs.{LengthPromise};
 ghost use Rattle.word_face.specs.LogCopy.{Copied, LogCopyPromise};
@@ -21,7 +21,7 @@ pub extern "C" fn words_run(bank: &mut [u16], steps: &[u16]) -> Ran
 pub extern "C" fn words_refusal(bank: &[u16], kind: u16, a: u16, b: u16, c: u16) -> u16
     ensures { λ r. ⌜ RefusalPromise paper (now (bank .entry)) (ask kind a b c) r ⌝ }
 {
-    group::refusal(bank, kind, a, b, c)
+    refusals::refusal(bank, kind, a, b, c)
 }
 
 #[no_mangle]

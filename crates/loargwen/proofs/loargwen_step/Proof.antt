@@ -1,7 +1,7 @@
 -- loargwen_step: the group's answer on the bank that the bytes stand for; the bytes are written where it is 0.
 use Rattle.bank.specs.Layout.{paper}
 use Rattle.bank.specs.Opening.{answer}
-use Rattle.group.specs.Step.{ask}
+use Rattle.refusals.specs.Step.{ask}
 use Rattle.group.specs.Promises.{stepOf}
 use Rattle.loargwen.specs.Bytes.{wordsOf}
 use Rattle.loargwen.proofs.Answers.{Called, no-bank, answered}

@@ -8,10 +8,10 @@ use Prim.Native.Nat.{ℕ}
 use lib.Dec.{eqb}
 use denote.Ref.{now}
 use Rattle.bank.specs.Layout.{layout}
-use Rattle.group.specs.Step.{Step, broadcast, send, receive, deliver, crash, detect, lose}
-use Rattle.group.specs.Step.{Asked, ask, asked, unused}
-use Rattle.group.specs.Promises.{Allowed, after, askedAfter}
-use Rattle.group.proofs.Accepted.{allowed-step, asked-free, not-asked}
+use Rattle.refusals.specs.Step.{Step, broadcast, send, receive, deliver, crash, detect, lose, Asked, ask, asked, unused}
+use Rattle.refusals.specs.Promises.{Allowed}
+use Rattle.group.specs.Promises.{after, askedAfter}
+use Rattle.refusals.proofs.Accepted.{allowed-step, asked-free, not-asked}
 use Rattle.group.proofs.steps.apply.Statement.{statement}
 use Rattle.group.proofs.steps.apply.Tie as tie
 

@@ -13,8 +13,8 @@ use Rattle.bank.proofs.Rooms.{short}
 use Rattle.bank.proofs.Lending.{lent-whole}
 use Rattle.bank.proofs.Reading.{puts-append}
 use Rattle.group.specs.Writes.{freshRecord}
-use Rattle.group.proofs.Granted.{Broadcasts, broadcast-granted}
-use Rattle.group.proofs.Bounds.{controller-below}
+use Rattle.refusals.proofs.Granted.{Broadcasts, broadcast-granted}
+use Rattle.refusals.proofs.Bounds.{controller-below}
 use Rattle.group.proofs.Changes.{fresh-rests, fresh-within}
 use borrow.Author.Needs.{needs}
 use Rattle.group.proofs.steps.broadcast.Statement.{statement}

@@ -14,8 +14,8 @@ use Rattle.bank.proofs.Rooms.{few, short}
 use Rattle.bank.proofs.Lending.{part, lent-whole}
 use Rattle.bank.proofs.Reading.{puts-append}
 use Rattle.group.specs.Writes.{marked}
-use Rattle.group.proofs.Granted.{Delivers, deliver-granted}
-use Rattle.group.proofs.Bounds.{controller-below, message-below}
+use Rattle.refusals.proofs.Granted.{Delivers, deliver-granted}
+use Rattle.refusals.proofs.Bounds.{controller-below, message-below}
 use Rattle.group.proofs.Changes.{marked-rests, marked-within}
 use borrow.Author.Needs.{needs}
 use Rattle.group.proofs.steps.deliver.Statement.{statement}

@@ -6,8 +6,8 @@ use lib.ListN.{length}
 use Rattle.bank.specs.Place.{view}
 use Rattle.bank.specs.Layout.{layout, words}
 use Rattle.bank.proofs.Places.{inside}
-use Rattle.group.proofs.Granted.{Detects, detect-granted}
-use Rattle.group.proofs.Bounds.{controller-below}
+use Rattle.refusals.proofs.Granted.{Detects, detect-granted}
+use Rattle.refusals.proofs.Bounds.{controller-below}
 use borrow.Author.Needs.{needs}
 use Rattle.group.proofs.steps.detect.Statement.{statement}
 use Rattle.group.proofs.steps.detect.Tie as tie

@@ -8,8 +8,8 @@ use Rattle.bank.specs.Layout.{Layout, layout, recordAt, recordSize}
 use Rattle.bank.proofs.Places.{record-inside}
 use Rattle.bank.proofs.Lending.{lent-whole}
 use Rattle.group.specs.Writes.{lost}
-use Rattle.group.proofs.Granted.{lose-granted}
-use Rattle.group.proofs.Bounds.{EndsIn, ends-below}
+use Rattle.refusals.proofs.Granted.{lose-granted}
+use Rattle.refusals.proofs.Bounds.{EndsIn, ends-below}
 use Rattle.group.proofs.Changes.{lost-rests, lost-within}
 use borrow.Author.Needs.{needs}
 use Rattle.group.proofs.steps.lose.Statement.{statement}

@@ -9,8 +9,8 @@ use Rattle.bank.specs.Layout.{Layout, layout, recordAt, recordSize, words}
 use Rattle.bank.proofs.Places.{record-inside}
 use Rattle.bank.proofs.Lending.{lent-whole}
 use Rattle.group.specs.Writes.{received}
-use Rattle.group.proofs.Granted.{receive-granted}
-use Rattle.group.proofs.Bounds.{EndsIn, ends-below}
+use Rattle.refusals.proofs.Granted.{receive-granted}
+use Rattle.refusals.proofs.Bounds.{EndsIn, ends-below}
 use Rattle.group.proofs.Changes.{received-rests, received-within}
 use borrow.Author.Needs.{needs}
 use Rattle.group.proofs.steps.receive.Statement.{statement}

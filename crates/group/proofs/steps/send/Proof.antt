@@ -8,8 +8,8 @@ use Rattle.bank.specs.Layout.{Layout, layout, recordAt, recordSize}
 use Rattle.bank.proofs.Places.{record-inside}
 use Rattle.bank.proofs.Lending.{lent-whole}
 use Rattle.group.specs.Writes.{sent}
-use Rattle.group.proofs.Granted.{send-granted}
-use Rattle.group.proofs.Bounds.{EndsIn, ends-below}
+use Rattle.refusals.proofs.Granted.{send-granted}
+use Rattle.refusals.proofs.Bounds.{EndsIn, ends-below}
 use Rattle.group.proofs.Changes.{sent-rests, sent-within}
 use borrow.Author.Needs.{needs}
 use Rattle.group.proofs.steps.send.Statement.{statement}

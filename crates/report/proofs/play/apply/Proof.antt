@@ -1,7 +1,7 @@
 -- apply: the kind decides between the settler and a step, and each one's promise gives the state.
 use native.Mathlib.Omega.{arith}
 use borrow.Author.Needs.{needs}
-use Rattle.group.specs.Step.{Asked, ask}
+use Rattle.refusals.specs.Step.{Asked, ask}
 use Rattle.report.proofs.Playing.{applies-settle, applies-accepted, applies-refused}
 use Rattle.report.proofs.play.apply.Statement.{statement}
 use Rattle.report.proofs.play.apply.Tie as tie

@@ -11,7 +11,7 @@ use borrow.Author.Tests.{eq-eqb, ne-eqb}
 use Rattle.bank.specs.Place.{N}
 use Rattle.bank.specs.Layout.{Layout, layout, words}
 use Rattle.bank.proofs.Rules.{pass, stop}
-use Rattle.group.specs.Step.{deliver}
+use Rattle.refusals.specs.Step.{deliver}
 use Rattle.settler.specs.Candidates.{firstOf, free, below}
 use Rattle.settler.specs.Moves.{nextOf}
 use Rattle.settler.proofs.First.{rest, rest-single, rest-found, rest-more, rest-ends}

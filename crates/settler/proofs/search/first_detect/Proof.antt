@@ -10,7 +10,7 @@ use borrow.Author.Needs.{needs}
 use Rattle.sets.specs.Set.{has, less, lowest}
 use Rattle.bank.specs.Place.{N, up, view}
 use Rattle.bank.specs.Layout.{Layout, layout, words}
-use Rattle.group.specs.Step.{detect}
+use Rattle.refusals.specs.Step.{detect}
 use Rattle.settler.specs.Candidates.{firstOf, free, pairs}
 use Rattle.settler.specs.Moves.{nextOf}
 use Rattle.settler.proofs.First.{Decided, pairsFrom, pairs-begin, pairs-end, pairs-none}

@@ -5,7 +5,7 @@ use mathlib.Core.Bool.{Bool}
 use mathlib.Core.List.{List, _++_, map}
 use Rattle.bank.specs.Place.{N}
 use Rattle.bank.specs.Layout.{layout, words}
-use Rattle.group.specs.Step.{Step, deliver}
+use Rattle.refusals.specs.Step.{Step, deliver}
 use Rattle.settler.specs.Candidates.{below, pairs, firstOf, free}
 use Rattle.settler.specs.Moves.{nextOf, copyStep}
 use Rattle.settler.proofs.Free.{send-kind, receive-kind}

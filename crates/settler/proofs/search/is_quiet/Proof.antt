@@ -2,7 +2,7 @@
 use mathlib.Core.Path.{sym, _∙_}
 use mathlib.Core.Option.{Option}
 use Rattle.bank.specs.Layout.{layout}
-use Rattle.group.specs.Step.{Step}
+use Rattle.refusals.specs.Step.{Step}
 use Rattle.settler.specs.Candidates.{next}
 use Rattle.settler.proofs.Taking.{quiet-none, take-some}
 use borrow.Author.Needs.{needs}

@@ -1,0 +1,10 @@
+// The paper's chapter "Numbers given back": what refuses a step. Nothing is changed and nothing is kept between calls.
+// Everything is for both sizes of bank; the calls without `room` are the full bank's.
+mod asking;
+mod delivery;
+mod kinds;
+
+pub use asking::refusal;
+pub use asking::refusal_in;
+pub use delivery::delivery_refusal;
+pub use delivery::enough;
