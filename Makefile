@@ -1,10 +1,11 @@
-# What a person types; README.md starts with the first two.
+# What a person types; README.md starts with the first two, CONTRIBUTING.md with the next.
 PREFIX ?= /usr/local
 SEED ?= 1
 MINUTES ?= 10
 SHELL := bash
 .SHELLFLAGS := -eu -o pipefail -c
-.PHONY: bench test soak benchmark install format
+CRATES = $(shell sed -nE 's/^(\w+):.*/\1/p' crates.txt)
+.PHONY: bench test dev quick soak benchmark install format
 
 # proves and builds the bench, then runs the worked example
 bench:
@@ -15,6 +16,19 @@ bench:
 # documentation, the scenarios of examples/, valgrind, Rust
 test:
 	bash .ci/run
+
+# the edit loop of one crate, CRATE: what it rests on is proved first, then an edit costs seconds; not the verdict
+dev:
+	$(if $(filter $(CRATES),$(CRATE)),,$(error make dev CRATE=NAME, where NAME is one of crates.txt: $(CRATES)))
+	rt dev $(CRATE)
+
+# the gate's quick part: layout, every proof that a change reached, the programs; then documentation and the scenarios
+# of examples/
+quick:
+	rt fmt --check
+	rt check
+	bash tests/docs/run
+	bash tests/examples/run
 
 # compares the archive and the bench with the second implementation on random inputs, for MINUTES but once at least
 soak:
