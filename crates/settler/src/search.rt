@@ -98,21 +98,25 @@ fn first_copy(bank: &[u16], room: Room, kind: u16, m: u16) -> Next
     Next::Quiet
 }
 
+// The first delivery of message m; only those who hold it and have not delivered it are asked about.
 fn first_deliver(bank: &[u16], room: Room, m: u16) -> Next
     ensures { λ r. ⌜ r
         ≡ nextOf (firstOf (free (layout room) (now (bank .entry)))
         (map (λ i. deliver i m) (below (words (layout room) (now (bank .entry)) N)))) ⌝ }
 {
     let n = bank::word(bank, Bank::N);
+    let waiting = sets::less(bank::held(bank, room, m), bank::delivered(bank, room, m));
     let mut i = 0;
     while i < n {
-        if refusals::delivery_refusal(bank, room, i, m) == Refusal::NONE {
-            return Next::Take(Move {
-                kind: Kind::DELIVER,
-                a: i,
-                b: m,
-                c: 0,
-            });
+        if sets::has(waiting, i) {
+            if refusals::delivery_refusal(bank, room, i, m) == Refusal::NONE {
+                return Next::Take(Move {
+                    kind: Kind::DELIVER,
+                    a: i,
+                    b: m,
+                    c: 0,
+                });
+            }
         }
         i += 1;
     }
