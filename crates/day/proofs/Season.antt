@@ -80,7 +80,7 @@ season-takes w small ms f g e =
 
 -- a log of the paper's bank is as long as it says, and no longer than there are messages
 pub log-whole : (b : List ℕ) (who : ℕ) → logRefusal paper b who ≡ 0
-    → (length (logOf paper b who) ≡ usedLength paper b who) × (length (logOf paper b who) ≤ 32)
+    → (length (logOf paper b who) ≡ usedLength paper b who) × (length (logOf paper b who) ≤ paper .messages)
 log-whole b who e =
     let a = log-asked paper b who e in
     let n = whole-length paper b who e in

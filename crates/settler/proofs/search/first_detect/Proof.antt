@@ -1,6 +1,6 @@
 -- first_detect: at every turn the whole answer is the answer from controller i's row on. A row that has a detect is
 -- the answer, and one that has none leaves it to the next; past the last row there is none. What falls is N - i.
-use Prim.Native.Nat.{ℕ, _+_, _≤_, _<_, _-_}
+use Prim.Native.Nat.{ℕ, _≤_, _<_, _-_}
 use mathlib.Core.Bool.{Bool}
 use mathlib.Core.List.{List}
 use mathlib.Core.Path.{_≡_, sym, ap, ap₂, _∙_}
@@ -9,7 +9,7 @@ use native.Mathlib.Omega.{arith}
 use borrow.Author.Needs.{needs}
 use Rattle.sets.specs.Set.{has, less, lowest}
 use Rattle.bank.specs.Place.{N, up, view}
-use Rattle.bank.specs.Layout.{Layout, layout, words}
+use Rattle.bank.specs.Layout.{Layout, layout, address, words}
 use Rattle.refusals.specs.Step.{detect}
 use Rattle.settler.specs.Candidates.{firstOf, free, pairs}
 use Rattle.settler.specs.Moves.{nextOf}
@@ -63,7 +63,7 @@ row c =
     let i = l .loop .i in
     let mode = l .before .before .word3 .ensures in
     detect-decided (sort l) (lent l) i (below (c .before)) (rw mode at (l .before .if1 .left))
-    (omega (arith, l .before .before .before .before .before .shared-slice-known .given (4 + i)))
+    (omega (arith, l .before .before .before .before .before .shared-slice-known .given (address (sort l) (view i))))
 
 word-requires : tie.Need-word-requires Inv-loop μ-loop
 word-requires c κs = search needs
