@@ -1,5 +1,5 @@
-// The day tally over a log, in both sizes of bank; `tally_day` is the full bank's. Reads the bank through the group's
-// questions and a message's words by name; writes nothing.
+// The day tally over a log, in both sizes of bank; `tally_day` is the full bank's. Reads the bank through the
+// questions about a log and a message's words by name; writes nothing.
 ghost use mathlib.Core.Path.{_≡_};
 ghost use Rattle.bank.specs.Layout.{paper, layout};
 ghost use Rattle.day.specs.Tallies.{TallyPromise};
