@@ -63,7 +63,7 @@ fn open_in(bank: &mut [u16], room: Room, n: u16, mode: u16) -> u16
         return Refusal::BAD_MODE;
     }
     write_opening(bank, room, n, mode);
-    Refusal::NONE
+    Refusal::DONE
 }
 
 pub fn open(bank: &mut [u16], n: u16, mode: u16) -> u16

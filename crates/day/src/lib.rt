@@ -34,11 +34,11 @@ fn tally_in(bank: &[u16], room: Room, who: u16, day: u16) -> DayAnswer
     ensures { λ r. ⌜ TallyPromise (layout room) (now (bank .entry)) who day (r .refusal) (r .count) (r .sum) ⌝ }
 {
     let l = lists::log_length_in(bank, room, who);
-    if l.refusal != Refusal::NONE {
+    if l.refusal != Refusal::DONE {
         return refused(l.refusal);
     }
     if day > Tally::LAST_DAY {
-        return refused(Refusal::NO_DAY);
+        return refused(Refusal::BAD_DAY);
     }
     let log = lists::log_in(bank, room, who);
     let count = bank::word(bank, Bank::COUNT);
@@ -53,7 +53,7 @@ fn tally_in(bank: &[u16], room: Room, who: u16, day: u16) -> DayAnswer
         k += 1;
     }
     DayAnswer {
-        refusal: Refusal::NONE,
+        refusal: Refusal::DONE,
         count: t.count,
         sum: t.sum,
     }

@@ -93,7 +93,7 @@ pub fn find_at(s: &[u8], i: usize) -> Found
         return Found::End;
     }
     if !well_cut(s, i) {
-        return Found::Bad(Refusal::RAGGED);
+        return Found::Bad(Refusal::BAD_RECORD);
     }
     let kind = word_at(s, i + 2);
     let length = record_length(kind);
@@ -104,7 +104,7 @@ pub fn find_at(s: &[u8], i: usize) -> Found
         return Found::Bad(Refusal::NO_STEP);
     }
     if word_at(s, i) != length {
-        return Found::Bad(Refusal::RAGGED);
+        return Found::Bad(Refusal::BAD_RECORD);
     }
     Found::Got(Record {
         kind,

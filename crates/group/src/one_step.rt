@@ -13,11 +13,11 @@ pub fn step_in(bank: &mut [u16], room: Room, kind: u16, a: u16, b: u16, c: u16) 
     ensures { λ r. ⌜ StepPromise (layout room) (now (bank .entry)) (ask kind a b c) r (now (bank .exit)) ⌝ }
 {
     let r = refusal_in(bank, room, kind, a, b, c);
-    if r != Refusal::NONE {
+    if r != Refusal::DONE {
         return r;
     }
     steps::apply(bank, room, kind, a, b, c);
-    Refusal::NONE
+    Refusal::DONE
 }
 
 pub fn step(bank: &mut [u16], kind: u16, a: u16, b: u16, c: u16) -> u16

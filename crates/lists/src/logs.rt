@@ -29,7 +29,7 @@ pub fn log_length_in(bank: &[u16], room: Room, who: u16) -> LogLength
         };
     }
     LogLength {
-        refusal: Refusal::NONE,
+        refusal: Refusal::DONE,
         length: bank::logged(bank, room, who),
     }
 }
@@ -39,7 +39,7 @@ pub fn log_in(bank: &[u16], room: Room, who: u16) -> &[u16]
     ensures { λ r. ⌜ LogPromise (layout room) (now (bank .entry)) who (now r) ⌝ }
 {
     let l = log_length_in(bank, room, who);
-    if l.refusal != Refusal::NONE {
+    if l.refusal != Refusal::DONE {
         return &bank[0..0];
     }
     let a = bank::log_at(room, who, 0);

@@ -28,7 +28,7 @@ fn run_in(bank: &mut [u16], room: Room, steps: &[u16]) -> Ran
     if steps.len() % 4 != 0 {
         return Ran {
             accepted: 0,
-            refusal: Refusal::RAGGED,
+            refusal: Refusal::BAD_RECORD,
         };
     }
     let mut i: usize = 0;
@@ -42,7 +42,7 @@ fn run_in(bank: &mut [u16], room: Room, steps: &[u16]) -> Ran
             steps[i + 2],
             steps[i + 3],
         );
-        if r != Refusal::NONE {
+        if r != Refusal::DONE {
             return Ran {
                 accepted,
                 refusal: r,
@@ -53,7 +53,7 @@ fn run_in(bank: &mut [u16], room: Room, steps: &[u16]) -> Ran
     }
     Ran {
         accepted,
-        refusal: Refusal::NONE,
+        refusal: Refusal::DONE,
     }
 }
 

@@ -41,7 +41,7 @@ pub(crate) fn write_back(refusal: u16, words: &[u16], bytes: &mut [u8])
     requires { ⌜ length (now bytes) ≡ 2 * length (now words) ⌝ }
     ensures { λ _. ⌜ now (bytes .exit) ≡ bytesAfter (now (bytes .entry)) refusal (now (words .entry)) ⌝ }
 {
-    if refusal == Refusal::NONE {
+    if refusal == Refusal::DONE {
         store(words, bytes);
     }
 }

@@ -27,11 +27,11 @@ impl Mode {
     pub const MAJORITY: u16 = 2;
 }
 
-// What is given back: done, or why not.
+// What is given back: done, or why not. The C header has the same names.
 pub struct Refusal {}
 
 impl Refusal {
-    pub const NONE: u16 = 0;
+    pub const DONE: u16 = 0;
 
     // The bank is unfit; also a log that has no room for a delivery, or that names no message.
     pub const UNFIT: u16 = 1;
@@ -49,10 +49,10 @@ impl Refusal {
     pub const ACTOR_DOWN: u16 = 6;
 
     // All message numbers are given.
-    pub const BANK_FULL: u16 = 7;
+    pub const MESSAGES_FULL: u16 = 7;
 
     // Nothing to send, to receive, to lose or to deliver there.
-    pub const NOT_THERE: u16 = 8;
+    pub const NO_COPY: u16 = 8;
 
     // The delivery test fails, or whoever would have to be down is up.
     pub const NOT_YET: u16 = 9;
@@ -63,8 +63,8 @@ impl Refusal {
 
     pub const BAD_MODE: u16 = 12;
 
-    // A list that is no whole steps, a record that is cut or of a wrong length.
-    pub const RAGGED: u16 = 13;
+    // A list that is no whole steps, a record that is cut or of a wrong length, a file not begun by a whole open.
+    pub const BAD_RECORD: u16 = 13;
 
-    pub const NO_DAY: u16 = 14;
+    pub const BAD_DAY: u16 = 14;
 }

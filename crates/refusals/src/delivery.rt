@@ -44,7 +44,7 @@ fn undelivered(delivered: u16, i: u16, length: u16, count: u16) -> u16
     if length >= count {
         return Refusal::UNFIT;
     }
-    Refusal::NONE
+    Refusal::DONE
 }
 
 // What refuses a delivery in a fit bank, or 0.
@@ -59,7 +59,7 @@ pub fn delivery_refusal(bank: &[u16], room: Room, i: u16, m: u16) -> u16
         return Refusal::NO_MESSAGE;
     }
     let r = moves(bank::word(bank, Bank::UP), i, bank::held(bank, room, m), i);
-    if r != Refusal::NONE {
+    if r != Refusal::DONE {
         return r;
     }
     if !may_deliver(bank, room, i, m) {

@@ -24,7 +24,7 @@ fn actor(bank: &[u16], i: u16) -> u16
     if !sets::has(bank::word(bank, Bank::UP), i) {
         return Refusal::ACTOR_DOWN;
     }
-    Refusal::NONE
+    Refusal::DONE
 }
 
 // Two controllers and a message are there.
@@ -41,7 +41,7 @@ fn ends(bank: &[u16], i: u16, j: u16, m: u16) -> u16
     if m >= bank::word(bank, Bank::COUNT) {
         return Refusal::NO_MESSAGE;
     }
-    Refusal::NONE
+    Refusal::DONE
 }
 
 // The acting controller i is up, and j is in the set that the step takes it from.
@@ -52,9 +52,9 @@ pub(crate) fn moves(up: u16, i: u16, set: u16, j: u16) -> u16
         return Refusal::ACTOR_DOWN;
     }
     if !sets::has(set, j) {
-        return Refusal::NOT_THERE;
+        return Refusal::NO_COPY;
     }
-    Refusal::NONE
+    Refusal::DONE
 }
 
 fn of_broadcast(bank: &[u16], room: Room, who: u16, stamp: u16, value: u16) -> u16
@@ -62,20 +62,20 @@ fn of_broadcast(bank: &[u16], room: Room, who: u16, stamp: u16, value: u16) -> u
         ≡ Refusals.refusal (layout room) (words (layout room) (now (bank .entry))) (broadcast who stamp value) ⌝ }
 {
     let r = actor(bank, who);
-    if r != Refusal::NONE {
+    if r != Refusal::DONE {
         return r;
     }
     if bank::word(bank, Bank::COUNT) >= bank::messages(room) {
-        return Refusal::BANK_FULL;
+        return Refusal::MESSAGES_FULL;
     }
-    Refusal::NONE
+    Refusal::DONE
 }
 
 fn of_send(bank: &[u16], room: Room, from: u16, to: u16, m: u16) -> u16
     ensures { λ r. ⌜ r ≡ Refusals.refusal (layout room) (words (layout room) (now (bank .entry))) (send from to m) ⌝ }
 {
     let r = ends(bank, from, to, m);
-    if r != Refusal::NONE {
+    if r != Refusal::DONE {
         return r;
     }
     let up = bank::word(bank, Bank::UP);
@@ -86,7 +86,7 @@ fn of_receive(bank: &[u16], room: Room, i: u16, from: u16, m: u16) -> u16
     ensures { λ r. ⌜ r ≡ Refusals.refusal (layout room) (words (layout room) (now (bank .entry))) (receive i from m) ⌝ }
 {
     let r = ends(bank, i, from, m);
-    if r != Refusal::NONE {
+    if r != Refusal::DONE {
         return r;
     }
     let up = bank::word(bank, Bank::UP);
@@ -122,27 +122,27 @@ fn of_detect(bank: &[u16], i: u16, j: u16) -> u16
     if !sets::has(bank::view(bank, i), j) {
         return Refusal::ALREADY;
     }
-    Refusal::NONE
+    Refusal::DONE
 }
 
 fn of_lose(bank: &[u16], room: Room, from: u16, to: u16, m: u16) -> u16
     ensures { λ r. ⌜ r ≡ Refusals.refusal (layout room) (words (layout room) (now (bank .entry))) (lose from to m) ⌝ }
 {
     let r = ends(bank, from, to, m);
-    if r != Refusal::NONE {
+    if r != Refusal::DONE {
         return r;
     }
     if !sets::has(bank::in_flight(bank, room, m, to), from) {
-        return Refusal::NOT_THERE;
+        return Refusal::NO_COPY;
     }
     let up = bank::word(bank, Bank::UP);
     if !sets::has(up, from) {
-        return Refusal::NONE;
+        return Refusal::DONE;
     }
     if sets::has(up, to) {
         return Refusal::NOT_YET;
     }
-    Refusal::NONE
+    Refusal::DONE
 }
 
 // What refuses the step that four numbers ask for; 2 where they ask for none.

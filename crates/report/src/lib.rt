@@ -18,11 +18,11 @@ pub fn bench(input: &[u8], out: &mut [u8]) -> usize
     ensures { λ r. do ⌜ r ≤ (← ⟦MOST⟧ .entry) ⌝ }
 {
     if !file::begun(input) {
-        return lines::end_line(out, 0, 0, Refusal::RAGGED);
+        return lines::end_line(out, 0, 0, Refusal::BAD_RECORD);
     }
     let mut bank = [0u16; Bank::WORDS];
     let refusal = bank::open(&mut bank, file::word_at(input, 4), file::word_at(input, 6));
-    if refusal != Refusal::NONE {
+    if refusal != Refusal::DONE {
         return lines::end_line(out, 0, 0, refusal);
     }
     let played = play::play(&mut bank, input);

@@ -30,12 +30,12 @@ fn apply(bank: &mut [u16], steps: u32, r: Record) -> Played
         };
     }
     let refusal = group::step(bank, r.kind, r.a, r.b, r.c);
-    if refusal != Refusal::NONE {
+    if refusal != Refusal::DONE {
         return Played { steps, refusal };
     }
     Played {
         steps: steps + 1,
-        refusal: Refusal::NONE,
+        refusal: Refusal::DONE,
     }
 }
 
@@ -53,7 +53,7 @@ pub(crate) fn play(bank: &mut [u16], s: &[u8]) -> Played
             Found::End => {
                 return Played {
                     steps,
-                    refusal: Refusal::NONE,
+                    refusal: Refusal::DONE,
                 };
             }
             Found::Bad(refusal) => {
@@ -61,7 +61,7 @@ pub(crate) fn play(bank: &mut [u16], s: &[u8]) -> Played
             }
             Found::Got(r) => {
                 let t = apply(bank, steps, r);
-                if t.refusal != Refusal::NONE {
+                if t.refusal != Refusal::DONE {
                     return t;
                 }
                 steps = t.steps;

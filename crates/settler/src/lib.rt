@@ -33,7 +33,7 @@ fn settle_in(bank: &mut [u16], room: Room, budget: u16) -> Settled
         let next = search::first_step(bank, room);
         let Next::Take(m) = next else {
             return Settled {
-                refusal: Refusal::NONE,
+                refusal: Refusal::DONE,
                 steps,
                 quiet: true,
             };
@@ -42,7 +42,7 @@ fn settle_in(bank: &mut [u16], room: Room, budget: u16) -> Settled
         steps += 1;
     }
     Settled {
-        refusal: Refusal::NONE,
+        refusal: Refusal::DONE,
         steps,
         quiet: search::is_quiet(bank, room),
     }

@@ -109,7 +109,7 @@ fn first_deliver(bank: &[u16], room: Room, m: u16) -> Next
     let mut i = 0;
     while i < n {
         if sets::has(waiting, i) {
-            if refusals::delivery_refusal(bank, room, i, m) == Refusal::NONE {
+            if refusals::delivery_refusal(bank, room, i, m) == Refusal::DONE {
                 return Next::Take(Move {
                     kind: Kind::DELIVER,
                     a: i,

@@ -28,7 +28,7 @@ pub extern "C" fn run_steps(bank: &mut [u16], steps: &[Step]) -> Ran
     while i < steps.len() {
         let s = steps[i];
         let r = group::step(bank, s.kind, s.a, s.b, s.c);
-        if r != Refusal::NONE {
+        if r != Refusal::DONE {
             return Ran {
                 accepted: i,
                 refusal: r,
@@ -38,6 +38,6 @@ pub extern "C" fn run_steps(bank: &mut [u16], steps: &[Step]) -> Ran
     }
     Ran {
         accepted: i,
-        refusal: Refusal::NONE,
+        refusal: Refusal::DONE,
     }
 }

@@ -46,7 +46,7 @@ behind h = record {
   bankForFit = slot h 8;  -- the bank as it is lent for that call
   unfit = slot h 9;  -- `!bank::fit(bank)`
   lengthThenOffset = slot h 10;  -- `steps.len()`, and once that is tested the bytes before `steps[i]`
-  test = slot h 11;  -- `i < steps.len()`, and once the step is asked for `r != Refusal::NONE`
+  test = slot h 11;  -- `i < steps.len()`, and once the step is asked for `r != Refusal::DONE`
   pointer = slot h 12;  -- where `steps[i]` lies
   element = slot h 13;  -- `steps[i]`
   startForStep = slot h 14;  -- where the bank lies, for `group::step(..)`
@@ -97,6 +97,6 @@ after (suc n) b = after n (tail b)
 abbrev pub afterStep : Body
 afterStep = after 10 oneTurn
 
--- what follows the loop: `Ran { accepted: i, refusal: Refusal::NONE }`
+-- what follows the loop: `Ran { accepted: i, refusal: Refusal::DONE }`
 abbrev pub afterLoop : Body
 afterLoop = code.Mir.t-8

@@ -136,7 +136,7 @@ module _ {M : Type 1} (𝓤 : URA M) (H : Heap 𝓤) (A : Atoms 𝓤) (W : Given
   unfolding afterTurn
   answered s more w r zs stepped =
       receives ! at.refusal refl (stepped .value) (tt, stepped .fits) $
-      -- if r != Refusal::NONE
+      -- if r != Refusal::DONE
       fills ! at.test refl (bin ! (var ! at.refusal refl) (lit ! tt) tt) (tt, tt) $
       if-then ! (var ! at.test refl) (λ y. eqb-false r 0 (not-true _ y)) (λ y. eqb-true r 0 (not-false _ y))
       -- return Ran { accepted: i, refusal: r };
@@ -177,7 +177,7 @@ module _ {M : Type 1} (𝓤 : URA M) (H : Heap 𝓤) (A : Atoms 𝓤) (W : Given
       (and-then ! (part-of ! at.step refl refl refl) (and-then ! (part-of ! at.step refl refl refl)
       (and-then ! (part-of ! at.step refl refl refl) (no-more !)))))) (λ w r zs stepped.
       clears ! lasting (Lent c zs) (theLocals bs) (search standing depth 20) $ answered s more w r zs stepped)))
-      -- Ran { accepted: i, refusal: Refusal::NONE }
+      -- Ran { accepted: i, refusal: Refusal::DONE }
       (λ none-left.
       exec ! (𝓣 .C) (𝓣 .Λ) (theLocals bs) afterLoop (atRet (theLocals bs) (Owes 𝓤 H A mem run c)) $
       answers 𝓤 H A mem run c ! (ended c s none-left) (var ! at.index refl) (lit ! tt) (search standing depth 20) refl)
