@@ -1,15 +1,15 @@
 -- A part of a list that is lent, written by itself and put back: the same as writing in the whole.
 use mathlib.Core.Path.{_≡_, refl, sym, ap, subst, _∙_}
 use mathlib.Core.List.{List, [], _∷_, _++_}
-use Prim.Native.Nat.{ℕ, zero, suc, _+_, _-_, _≤_, _<_}
+use Prim.Native.Nat.{ℕ, _+_, _-_, _≤_, _<_}
 use native.Mathlib.Nat.{zero-add, suc-add}
 use native.Mathlib.Omega.{arith}
 use lib.ListN.{length, getD, set, take, drop, length-set, length-drop, take-append-drop}
 use lib.Seq.{set-append-left, length-take-le, getD-take, getD-drop}
 use Rattle.bank.specs.Place.{Field, Record, recordOf, Write}
-use Rattle.bank.specs.Layout.{Layout, look, puts, words, address, offset, recordAt, recordSize, inRecord}
+use Rattle.bank.specs.Layout.{Layout, size, puts, words, address, offset, recordAt, recordSize, inRecord}
 use Rattle.bank.specs.Layout.{changed, FieldIn}
-use Rattle.bank.proofs.Places.{offset-below}
+use Rattle.bank.proofs.Places.{offset-below, record-inside}
 
 -- xs with ys in the place of its k elements from a on
 abbrev pub graft : ℕ → ℕ → List ℕ → List ℕ → List ℕ
@@ -61,37 +61,47 @@ pub puts-in-record : (L : Layout) (m : ℕ) (b : List ℕ) (ws : List (Write Fie
 puts-in-record L m b [] = refl
 puts-in-record L m b (w ∷ ws) = puts-in-record L m (set b (recordAt L m + offset L (w .at)) (w .word)) ws
 
-pub lent : (L : Layout) (m k : ℕ) (b : List ℕ) (change : Record → List (Write Field)) → recordAt L m + k ≤ length b
-    → change (look (offset L) (part (recordAt L m) k b)) ≡ change (recordOf (words L b) m)
-    → Below (offset L) k (change (recordOf (words L b) m))
-    → graft (recordAt L m) k b (changed L change (part (recordAt L m) k b))
-    ≡ puts (address L) b (inRecord m (change (recordOf (words L b) m)))
-lent L m k b change fits same h =
-    ap (λ ws. graft (recordAt L m) k b (puts (offset L) (part (recordAt L m) k b) ws)) same
-    ∙ part-puts (recordAt L m) k b fits (offset L) (change (recordOf (words L b) m)) h
-    ∙ puts-in-record L m b (change (recordOf (words L b) m))
-
 -- ---- a record lent whole
 
-module _ (L : Layout) where
-  -- a change that rests on no word but those of the layout
-  abbrev pub Rests : (Record → List (Write Field)) → Type 0
-  Rests change = (g h : Record) → ((f : Field) → FieldIn L f → g f ≡ h f) → change g ≡ change h
+-- the m-th record of a bank, lent from a up to e
+pub record Lends (L : Layout) (b : List ℕ) (m a e : ℕ) : Type 0 where
+  pub begins : a ≡ recordAt L m
+  pub ends : e ≡ recordAt L m + recordSize L
+  pub fits : recordAt L m + recordSize L ≤ length b
 
-  module _ (m : ℕ) (b : List ℕ) (fits : recordAt L m + recordSize L ≤ length b) where
-    abbrev size : ℕ
-    size = (recordAt L m + recordSize L) - recordAt L m
+pub lends : {L : Layout} {b : List ℕ} {m a e : ℕ} → length b ≡ size L → m < L .messages → a ≡ recordAt L m
+    → e ≡ recordAt L m + recordSize L → Lends L b m a e
+lends {L} {b} {m} whole given begins ends =
+    record { begins = begins; ends = ends; fits = rw whole (record-inside L m given) }
 
-    pub lent-length : length (part (recordAt L m) size b) ≡ recordSize L
-    lent-length = part-length (recordAt L m) size b (omega arith) ∙ omega arith
+-- a change that rests on no word but those of the layout, and stands within the record
+pub record Change (L : Layout) (change : Record → List (Write Field)) : Type 0 where
+  pub rests : (g h : Record) → ((f : Field) → FieldIn L f → g f ≡ h f) → change g ≡ change h
+  pub within : (r : Record) → Below (offset L) (recordSize L) (change r)
 
-    pub lent-whole : (change : Record → List (Write Field)) → Rests change
-        → ((r : Record) → Below (offset L) (recordSize L) (change r))
-        → graft (recordAt L m) size b (changed L change (part (recordAt L m) size b))
-        ≡ puts (address L) b (inRecord m (change (recordOf (words L b) m)))
-    lent-whole change rests below =
-        let whole : recordSize L ≡ size = omega arith in
-        lent L m size b change (omega arith)
-        (rests _ _ (λ f h. part-word (recordAt L m) size b (omega arith) (offset L f)
-        (omega (arith, offset-below L f h))))
-        (subst (λ k. Below (offset L) k (change (recordOf (words L b) m))) whole (below _))
+module _ {L : Layout} {b : List ℕ} {m a e : ℕ} (l : Lends L b m a e) where
+  -- it ends in the bank, and is as long as a record
+  pub lent-inside : e ≤ length b
+  lent-inside = omega (arith, l .ends, l .fits)
+
+  long : e - a ≡ recordSize L
+  long = omega (arith, l .begins, l .ends)
+
+  part-in : a + (e - a) ≤ length b
+  part-in = omega (arith, l .begins, l .ends, l .fits)
+
+  pub lent-length : length (part a (e - a) b) ≡ recordSize L
+  lent-length = part-length a (e - a) b part-in ∙ long
+
+  -- written by itself and put back: the change is in the bank
+  pub lent-whole : (change : Record → List (Write Field)) → Change L change
+      → graft a (e - a) b (changed L change (part a (e - a) b))
+      ≡ puts (address L) b (inRecord m (change (recordOf (words L b) m)))
+  lent-whole change known =
+      let new = change (recordOf (words L b) m) in
+      ap (λ ws. graft a (e - a) b (puts (offset L) (part a (e - a) b) ws))
+      (known .rests _ _ (λ f h. part-word a (e - a) b part-in (offset L f) (omega (arith, long, offset-below L f h))
+      ∙ ap (λ k. getD b (k + offset L f) 0) (l .begins)))
+      ∙ part-puts a (e - a) b part-in (offset L) new (subst (λ k. Below (offset L) k new) (sym long) (known .within _))
+      ∙ ap (λ k. puts (λ f. k + offset L f) b new) (l .begins)
+      ∙ puts-in-record L m b new

@@ -53,7 +53,7 @@ impl Bank {
 }
 
 // The seedling rack's bank: the numbers in which it differs from the full one.
-pub struct Rack {}
+pub(crate) struct Rack {}
 
 impl Rack {
     pub const CONTROLLERS: u16 = 4;
@@ -80,7 +80,7 @@ impl Rack {
 // Which of the two sizes a bank has.
 pub type Room = bool;
 
-pub const FULL: bool = false;
+pub const FULL: Room = false;
 
 pub(crate) fn controllers(room: Room) -> u16
     ensures { λ r. ⌜ r ≡ layout room .controllers ⌝ }

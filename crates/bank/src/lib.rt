@@ -1,5 +1,5 @@
 // The paper's chapter "The bank": where each word of a lent run of words stands, what makes a bank unfit, and opening.
-// Everything is for both sizes of bank; the calls without `room` are the full bank's.
+// `open` and `fit` are the full bank's; what takes a `room` is for both sizes, and whatever else is alike in both.
 mod layout;
 mod opening;
 mod unfit;
@@ -7,7 +7,6 @@ mod words;
 
 pub use layout::Bank;
 pub use layout::FULL;
-pub use layout::Rack;
 pub use layout::Room;
 pub use layout::acked_at;
 pub use layout::flight_at;

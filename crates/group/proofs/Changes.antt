@@ -1,54 +1,52 @@
--- What a step changes in one record: it rests on words of the layout, and stands within the record.
+-- What each step changes in one record rests on words of the layout, and stands within the record.
 use mathlib.Core.Path.{refl, ap, ap₂}
-use mathlib.Core.List.{List, [], _∷_}
+use mathlib.Core.List.{[], _∷_}
 use Prim.Native.Nat.{ℕ, _<_}
 use native.Mathlib.Omega.{arith}
 use Rattle.sets.specs.Set.{with, without}
-use Rattle.bank.specs.Place.{Field, Record, Write, _≔_, held, delivered, acked, unsent, inFlight}
-use Rattle.bank.specs.Layout.{Layout, offset, recordSize}
+use Rattle.bank.specs.Place.{_≔_, held, delivered, acked, unsent, inFlight}
+use Rattle.bank.specs.Layout.{Layout, recordSize}
 use Rattle.bank.proofs.Places.{offset-below}
-use Rattle.bank.proofs.Lending.{Below, Rests}
+use Rattle.bank.proofs.Lending.{Change}
 use Rattle.bank.proofs.Fields.{fields-below}
 use Rattle.group.specs.Writes.{fresh, freshRecord, sent, received, lost, marked}
 
 module _ (L : Layout) where
-  -- each is within its record
-  abbrev Within : (Record → List (Write Field)) → Type 0
-  Within change = (r : Record) → Below (offset L) (recordSize L) (change r)
+  pub fresh-change : (n who s v : ℕ) → Change L (freshRecord L n who s v)
+  fresh-change n who s v =
+      record {
+        rests = λ g h e. refl;
+        within = λ r. fields-below L (fresh n who s v) (recordSize L) (omega arith);
+      }
 
-  pub fresh-rests : (n who s v : ℕ) → Rests L (freshRecord L n who s v)
-  fresh-rests n who s v g h e = refl
+  pub sent-change : (from to : ℕ) → from < L .controllers → to < L .controllers → Change L (sent from to)
+  sent-change from to f t =
+      record {
+        rests = λ g h e. ap₂ (λ (x y : ℕ). unsent from ≔ without x to ∷ inFlight to ≔ with y from ∷ [])
+            (e (unsent from) f) (e (inFlight to) t);
+        within = λ r. (offset-below L (unsent from) f, (offset-below L (inFlight to) t, tt));
+      }
 
-  pub fresh-within : (n who s v : ℕ) → Within (freshRecord L n who s v)
-  fresh-within n who s v r = fields-below L (fresh n who s v) (recordSize L) (omega arith)
+  pub received-change : (n i from : ℕ) → i < L .controllers → Change L (received n i from)
+  received-change n i from l =
+      record {
+        rests = λ g h e. rw (e (inFlight i) l, e (acked i) l, e held (omega arith), e (unsent i) l) refl;
+        within = λ r. (
+          offset-below L (inFlight i) l,
+          (offset-below L (acked i) l, (offset-below L held (omega arith), (offset-below L (unsent i) l, tt))),
+        );
+      }
 
-  module _ {from to : ℕ} (f : from < L .controllers) (t : to < L .controllers) where
-    pub sent-rests : Rests L (sent from to)
-    sent-rests g h e =
-        ap₂ (λ (x y : ℕ). unsent from ≔ without x to ∷ inFlight to ≔ with y from ∷ []) (e (unsent from) f) (e (inFlight to) t)
+  pub lost-change : (from to : ℕ) → to < L .controllers → Change L (lost from to)
+  lost-change from to t =
+      record {
+        rests = λ g h e. ap (λ (x : ℕ). inFlight to ≔ without x from ∷ []) (e (inFlight to) t);
+        within = λ r. (offset-below L (inFlight to) t, tt);
+      }
 
-    pub sent-within : Within (sent from to)
-    sent-within r = (offset-below L (unsent from) f, (offset-below L (inFlight to) t, tt))
-
-  module _ (n : ℕ) {i : ℕ} (from : ℕ) (l : i < L .controllers) where
-    pub received-rests : Rests L (received n i from)
-    received-rests g h e = rw (e (inFlight i) l, e (acked i) l, e held (omega arith), e (unsent i) l) refl
-
-    pub received-within : Within (received n i from)
-    received-within r = (
-      offset-below L (inFlight i) l,
-      (offset-below L (acked i) l, (offset-below L held (omega arith), (offset-below L (unsent i) l, tt))),
-    )
-
-  module _ (from : ℕ) {to : ℕ} (t : to < L .controllers) where
-    pub lost-rests : Rests L (lost from to)
-    lost-rests g h e = ap (λ (x : ℕ). inFlight to ≔ without x from ∷ []) (e (inFlight to) t)
-
-    pub lost-within : Within (lost from to)
-    lost-within r = (offset-below L (inFlight to) t, tt)
-
-  pub marked-rests : (i : ℕ) → Rests L (marked i)
-  marked-rests i g h e = ap (λ (x : ℕ). delivered ≔ with x i ∷ []) (e delivered (omega arith))
-
-  pub marked-within : (i : ℕ) → Within (marked i)
-  marked-within i r = (offset-below L delivered (omega arith), tt)
+  pub marked-change : (i : ℕ) → Change L (marked i)
+  marked-change i =
+      record {
+        rests = λ g h e. ap (λ (x : ℕ). delivered ≔ with x i ∷ []) (e delivered (omega arith));
+        within = λ r. (offset-below L delivered (omega arith), tt);
+      }

@@ -1,7 +1,7 @@
 -- The words of a record just broadcast: cleared, and five words written, or written field by field, all the same.
 use mathlib.Core.Path.{_≡_, refl, sym, ap, ap₂, _∙_}
 use mathlib.Core.Bool.{cond}
-use mathlib.Core.List.{List, [], _∷_, _++_, map, map-map, map-append}
+use mathlib.Core.List.{List, _∷_, _++_, map, map-map, map-append}
 use Prim.Native.Nat.{ℕ, suc, _+_, _<_}
 use native.Mathlib.Nat.{zero-add}
 use native.Mathlib.Omega.{arith}
@@ -9,7 +9,7 @@ use lib.Dec.{eqb}
 use lib.ListN.{length, set, replicate, length-replicate, replicate-append-replicate}
 use lib.Seq.{set-append-left}
 use Rattle.sets.specs.Set.{with, allBelow}
-use Rattle.bank.specs.Place.{Field, sender, stamp, value, held, acked, unsent, inFlight}
+use Rattle.bank.specs.Place.{Field, acked, unsent, inFlight}
 use Rattle.bank.specs.Layout.{Layout, recordSize, offset, upFrom, fields}
 use Rattle.bank.proofs.Lending.{set-append-add}
 use Rattle.bank.proofs.Fields.{one-word, zeros}
@@ -32,7 +32,8 @@ five-words L n who s v h =
     ap₂ (λ r j. set (set (set (set (set (replicate r 0) 0 who) 1 s) 2 v) 3 (with 0 who)) j (allBelow n)) size here
     ∙ ap (λ l. set (who ∷ s ∷ v ∷ with 0 who ∷ 0 ∷ l) (length front + who) (allBelow n)) whole
     ∙ set-append-add front rest who (allBelow n)
-    ∙ ap (λ l. front ++ l) (set-append-left (replicate k 0) (replicate k 0) who (allBelow n) (omega (arith, length-replicate {A = ℕ} k 0)))
+    ∙ ap (λ l. front ++ l)
+    (set-append-left (replicate k 0) (replicate k 0) who (allBelow n) (omega (arith, length-replicate {A = ℕ} k 0)))
     ∙ ap₂ (λ l r. who ∷ s ∷ v ∷ with 0 who ∷ 0 ∷ (l ++ r)) (zeros g acked k 0 (λ j. refl))
     (ap₂ (λ l r. l ++ r)
     (one-word (allBelow n) k 0 who h

@@ -4,9 +4,7 @@ use mathlib.Core.Bool.{Bool, true, false}
 use mathlib.Core.List.{List}
 use Prim.Native.Nat.{ℕ, _≤_, _<_}
 use native.Mathlib.Omega.{arith}
-use lib.Dec.{eqb, leb}
 use borrow.Author.Tests.{eq-eqb, ne-eqb, ltb-true, leb-true}
-use Rattle.sets.specs.Set.{every}
 use Rattle.sets.proofs.Counts.{every-at}
 use Rattle.bank.specs.Place.{N, count, logLength}
 use Rattle.bank.specs.Layout.{Layout, words}

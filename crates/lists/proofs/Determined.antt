@@ -13,9 +13,10 @@ pub run-determined : (L : Layout) (b steps : List ℕ) {n k r s : ℕ} {c d : Li
 run-determined L b steps e f =
     let g = e ∙ sym f in (ap (λ o. o .accepted) g, ap (λ o. o .refusal) g, ap (λ o. o .bank) g)
 
-pub length-determined : (L : Layout) (b : List ℕ) (who : ℕ) {r s n k : ℕ} → LengthPromise L b who r n → LengthPromise L b who s k
-    → (r ≡ s) × (n ≡ k)
+pub length-determined : (L : Layout) (b : List ℕ) (who : ℕ) {r s n k : ℕ} → LengthPromise L b who r n
+    → LengthPromise L b who s k → (r ≡ s) × (n ≡ k)
 length-determined L b who e f = (e .0 ∙ sym (f .0), e .1 ∙ sym (f .1))
 
-pub log-determined : (L : Layout) (b : List ℕ) (who : ℕ) {c d : List ℕ} → LogPromise L b who c → LogPromise L b who d → c ≡ d
+pub log-determined : (L : Layout) (b : List ℕ) (who : ℕ) {c d : List ℕ} → LogPromise L b who c
+    → LogPromise L b who d → c ≡ d
 log-determined L b who e f = one-value e f

@@ -34,7 +34,7 @@ fn run_in(bank: &mut [u16], room: Room, steps: &[u16]) -> Ran
     let mut i: usize = 0;
     let mut accepted: usize = 0;
     while i < steps.len() {
-        let r = step_in(
+        let refusal = step_in(
             bank,
             room,
             steps[i],
@@ -42,11 +42,8 @@ fn run_in(bank: &mut [u16], room: Room, steps: &[u16]) -> Ran
             steps[i + 2],
             steps[i + 3],
         );
-        if r != Refusal::DONE {
-            return Ran {
-                accepted,
-                refusal: r,
-            };
+        if refusal != Refusal::DONE {
+            return Ran { accepted, refusal };
         }
         accepted += 1;
         i += 4;

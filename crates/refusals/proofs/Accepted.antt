@@ -49,8 +49,8 @@ asked-free L b x t s e q =
     q ∙ asked-unused L b t s (subst (λ o. askedRefusal L b o ≡ 0) q (not-refused L b x e))
 
 -- a kind that is none of the seven asks for nothing
-pub not-asked : (x : Asked) → (x .kind ≡ 1 → ⊥) → (x .kind ≡ 2 → ⊥) → (x .kind ≡ 3 → ⊥) → (x .kind ≡ 4 → ⊥) → (x .kind ≡ 5 → ⊥)
-    → (x .kind ≡ 6 → ⊥) → (x .kind ≡ 7 → ⊥) → asked x ≡ none
+pub not-asked : (x : Asked) → (x .kind ≡ 1 → ⊥) → (x .kind ≡ 2 → ⊥) → (x .kind ≡ 3 → ⊥) → (x .kind ≡ 4 → ⊥)
+    → (x .kind ≡ 5 → ⊥) → (x .kind ≡ 6 → ⊥) → (x .kind ≡ 7 → ⊥) → asked x ≡ none
 not-asked x n1 n2 n3 n4 n5 n6 n7 =
     stop _ (ne-eqb _ _ n1)
     (stop _ (ne-eqb _ _ n2)

@@ -9,7 +9,7 @@ ghost use Rattle.bank.specs.Layout.{layout, words};
 ghost use Rattle.bank.specs.Rules.{_else_, firstBroken};
 ghost use Rattle.refusals.specs.Delivery;
 ghost use Rattle.refusals.specs.Delivery.{mayDeliver, deliverRules};
-use crate::kinds::moves;
+use crate::beginnings::moves;
 use bank::Bank;
 use bank::Room;
 use numbers::Mode;

@@ -1,6 +1,7 @@
 // The paper's chapter "Numbers given back": what refuses a step. Nothing is changed and nothing is kept between calls.
-// Everything is for both sizes of bank; the calls without `room` are the full bank's.
+// Everything is for both sizes of bank; `refusal` is the full bank's.
 mod asking;
+mod beginnings;
 mod delivery;
 mod kinds;
 

@@ -23,8 +23,8 @@ abbrev pub hex : ℕ → List ℕ
 hex w = hexDigit (w / 4096 % 16) ∷ hexDigit (w / 256 % 16) ∷ hexDigit (w / 16 % 16) ∷ hexDigit (w % 16) ∷ []
 
 -- a text of at most so many bytes from a place on ends within 65,536 bytes
-abbrev pub Room : ℕ → ℕ → Type 0
-Room most at = at + most ≤ 65536
+abbrev pub Reach : ℕ → ℕ → Type 0
+Reach most at = at + most ≤ 65536
 
 -- a text of at most so many bytes stands in a buffer from a place on, as far as the buffer reaches (past its end
 -- nothing is stored); the place after the text is answered

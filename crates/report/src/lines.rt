@@ -6,7 +6,7 @@ ghost use lib.ListN.{length};
 ghost use Rattle.bank.specs.Place;
 ghost use Rattle.bank.specs.Layout.{paper, words, upFrom};
 ghost use Rattle.bank.specs.Fit.{Fit};
-ghost use Rattle.report.specs.Text.{Room, Prints};
+ghost use Rattle.report.specs.Text.{Reach, Prints};
 ghost use Rattle.report.specs.Lines;
 ghost use Rattle.report.specs.Lines.{groupLine, messageHead, messageSets, messageLine};
 ghost use Rattle.report.specs.Lines.{upOrDown, controllerLine, bankLines, endLine};
@@ -20,7 +20,7 @@ use bank::FULL;
 
 // N and mode.
 fn group_line(out: &mut [u8], at: usize, bank: &[u16]) -> usize
-    requires { ⌜ Room 28 at ⌝ }
+    requires { ⌜ Reach 28 at ⌝ }
     ensures { λ r. ⌜ Prints 28 (now (out .entry)) at (groupLine (now (bank .entry))) r (now (out .exit)) ⌝ }
 {
     let mode = number(out, at, b"group ", bank::word(bank, Bank::N));
@@ -30,7 +30,7 @@ fn group_line(out: &mut [u8], at: usize, bank: &[u16]) -> usize
 
 // Number, sender, stamp and value.
 fn message_head(out: &mut [u8], at: usize, bank: &[u16], m: u16) -> usize
-    requires { ⌜ Room 61 at ⌝ }
+    requires { ⌜ Reach 61 at ⌝ }
     ensures { λ r. ⌜ Prints 61 (now (out .entry)) at (messageHead (now (bank .entry)) m) r (now (out .exit)) ⌝ }
 {
     let sender = number(out, at, b"msg ", m);
@@ -41,7 +41,7 @@ fn message_head(out: &mut [u8], at: usize, bank: &[u16], m: u16) -> usize
 
 // Who holds the message and who has delivered it.
 fn message_sets(out: &mut [u8], at: usize, bank: &[u16], m: u16) -> usize
-    requires { ⌜ Room 26 at ⌝ }
+    requires { ⌜ Reach 26 at ⌝ }
     ensures { λ r. ⌜ Prints 26 (now (out .entry)) at (messageSets (now (bank .entry)) m) r (now (out .exit)) ⌝ }
 {
     let delivered = set(out, at, b" held ", bank::held(bank, FULL, m));
@@ -56,7 +56,7 @@ fn message_sets(out: &mut [u8], at: usize, bank: &[u16], m: u16) -> usize
 
 // A message.
 fn message_line(out: &mut [u8], at: usize, bank: &[u16], m: u16) -> usize
-    requires { ⌜ Room 87 at ⌝ }
+    requires { ⌜ Reach 87 at ⌝ }
     ensures { λ r. ⌜ Prints 87 (now (out .entry)) at (messageLine (now (bank .entry)) m) r (now (out .exit)) ⌝ }
 {
     let held = message_head(out, at, bank, m);
@@ -65,7 +65,7 @@ fn message_line(out: &mut [u8], at: usize, bank: &[u16], m: u16) -> usize
 
 // The numbers of a log, each after one blank.
 fn entries(out: &mut [u8], at: usize, log: &[u16]) -> usize
-    requires { ⌜ Room 352 at × (length (now log) ≤ 32) ⌝ }
+    requires { ⌜ Reach 352 at × (length (now log) ≤ 32) ⌝ }
     ensures { λ r. ⌜ Prints 352 (now (out .entry)) at (Lines.entries (now (log .entry))) r (now (out .exit)) ⌝ }
 {
     let mut end = at;
@@ -78,7 +78,7 @@ fn entries(out: &mut [u8], at: usize, log: &[u16]) -> usize
 }
 
 fn up_or_down(out: &mut [u8], at: usize, up: bool) -> usize
-    requires { ⌜ Room 9 at ⌝ }
+    requires { ⌜ Reach 9 at ⌝ }
     ensures { λ r. ⌜ Prints 9 (now (out .entry)) at (upOrDown up) r (now (out .exit)) ⌝ }
 {
     if up {
@@ -89,7 +89,7 @@ fn up_or_down(out: &mut [u8], at: usize, up: bool) -> usize
 }
 
 fn controller_line(out: &mut [u8], at: usize, bank: &[u16], i: u16) -> usize
-    requires { ⌜ Room 376 at ⌝ }
+    requires { ⌜ Reach 376 at ⌝ }
     ensures { λ r. ⌜ Prints 376 (now (out .entry)) at (controllerLine (now (bank .entry)) i) r (now (out .exit)) ⌝ }
 {
     let up = number(out, at, b"ctl ", i);
@@ -100,7 +100,7 @@ fn controller_line(out: &mut [u8], at: usize, bank: &[u16], i: u16) -> usize
 
 // A line for each message.
 fn message_lines(out: &mut [u8], at: usize, bank: &[u16]) -> usize
-    requires { ⌜ Room 2784 at × Fit paper (now bank) ⌝ }
+    requires { ⌜ Reach 2784 at × Fit paper (now bank) ⌝ }
     ensures { λ r. ⌜ Prints 2784 (now (out .entry)) at
         (Lines.lines (messageLine (now (bank .entry))) (upFrom 0 (words paper (now (bank .entry)) Place.count))) r
         (now (out .exit)) ⌝ }
@@ -117,7 +117,7 @@ fn message_lines(out: &mut [u8], at: usize, bank: &[u16]) -> usize
 
 // A line for each controller.
 fn controller_lines(out: &mut [u8], at: usize, bank: &[u16]) -> usize
-    requires { ⌜ Room 6016 at × Fit paper (now bank) ⌝ }
+    requires { ⌜ Reach 6016 at × Fit paper (now bank) ⌝ }
     ensures { λ r. ⌜ Prints 6016 (now (out .entry)) at
         (Lines.lines (controllerLine (now (bank .entry))) (upFrom 0 (words paper (now (bank .entry)) Place.N))) r
         (now (out .exit)) ⌝ }
@@ -134,7 +134,7 @@ fn controller_lines(out: &mut [u8], at: usize, bank: &[u16]) -> usize
 
 // All that is printed of a bank.
 pub(crate) fn bank_lines(out: &mut [u8], at: usize, bank: &[u16]) -> usize
-    requires { ⌜ Room 8828 at × Fit paper (now bank) ⌝ }
+    requires { ⌜ Reach 8828 at × Fit paper (now bank) ⌝ }
     ensures { λ r. ⌜ Prints 8828 (now (out .entry)) at (bankLines (now (bank .entry))) r (now (out .exit)) ⌝ }
 {
     let messages = group_line(out, at, bank);
@@ -144,7 +144,7 @@ pub(crate) fn bank_lines(out: &mut [u8], at: usize, bank: &[u16]) -> usize
 
 // The steps applied and the refusal.
 pub(crate) fn end_line(out: &mut [u8], at: usize, steps: u32, refusal: u16) -> usize
-    requires { ⌜ Room 26 at ⌝ }
+    requires { ⌜ Reach 26 at ⌝ }
     ensures { λ r. ⌜ Prints 26 (now (out .entry)) at (endLine steps refusal) r (now (out .exit)) ⌝ }
 {
     let first = put_all(out, at, b"end ");

@@ -5,11 +5,11 @@ ghost use mathlib.Core.List.{[], _∷_, _++_};
 ghost use Prim.Native.Nat.{_+_, _<_};
 ghost use lib.ListN.{length};
 ghost use Rattle.report.specs.Text;
-ghost use Rattle.report.specs.Text.{Room, Prints, hexDigit};
+ghost use Rattle.report.specs.Text.{Reach, Prints, hexDigit};
 
 // One byte.
 pub(crate) fn put(out: &mut [u8], at: usize, b: u8) -> usize
-    requires { ⌜ Room 1 at ⌝ }
+    requires { ⌜ Reach 1 at ⌝ }
     ensures { λ r. ⌜ Prints 1 (now (out .entry)) at (b ∷ []) r (now (out .exit)) ⌝ }
 {
     let next = at + 1;
@@ -21,7 +21,7 @@ pub(crate) fn put(out: &mut [u8], at: usize, b: u8) -> usize
 
 // All bytes of a text.
 pub(crate) fn put_all(out: &mut [u8], at: usize, text: &[u8]) -> usize
-    requires { ⌜ Room (length (now text)) at ⌝ }
+    requires { ⌜ Reach (length (now text)) at ⌝ }
     ensures { λ r. ⌜ Prints (length (now (text .entry))) (now (out .entry)) at (now (text .entry)) r
         (now (out .exit)) ⌝ }
 {
@@ -35,7 +35,7 @@ pub(crate) fn put_all(out: &mut [u8], at: usize, text: &[u8]) -> usize
 
 // A number in decimal, without leading zeros.
 pub(crate) fn decimal(out: &mut [u8], at: usize, x: u32) -> usize
-    requires { ⌜ Room 10 at ⌝ }
+    requires { ⌜ Reach 10 at ⌝ }
     ensures { λ r. ⌜ Prints 10 (now (out .entry)) at (Text.decimal x) r (now (out .exit)) ⌝ }
 {
     if x < 10 {
@@ -54,7 +54,7 @@ fn hex_digit(x: u16) -> u8
 
 // A word in four hex digits.
 fn hex(out: &mut [u8], at: usize, w: u16) -> usize
-    requires { ⌜ Room 4 at ⌝ }
+    requires { ⌜ Reach 4 at ⌝ }
     ensures { λ r. ⌜ Prints 4 (now (out .entry)) at (Text.hex w) r (now (out .exit)) ⌝ }
 {
     let second = put(out, at, hex_digit(w / 4096 % 16));
@@ -65,7 +65,7 @@ fn hex(out: &mut [u8], at: usize, w: u16) -> usize
 
 // A name and a word after it, as a number.
 pub(crate) fn number(out: &mut [u8], at: usize, name: &[u8], x: u16) -> usize
-    requires { ⌜ Room (length (now name) + 10) at ⌝ }
+    requires { ⌜ Reach (length (now name) + 10) at ⌝ }
     ensures { λ r. ⌜ Prints (length (now (name .entry)) + 10) (now (out .entry)) at
         (now (name .entry) ++ Text.decimal x) r (now (out .exit)) ⌝ }
 {
@@ -75,7 +75,7 @@ pub(crate) fn number(out: &mut [u8], at: usize, name: &[u8], x: u16) -> usize
 
 // A name and a word after it, as a set.
 pub(crate) fn set(out: &mut [u8], at: usize, name: &[u8], w: u16) -> usize
-    requires { ⌜ Room (length (now name) + 4) at ⌝ }
+    requires { ⌜ Reach (length (now name) + 4) at ⌝ }
     ensures { λ r. ⌜ Prints (length (now (name .entry)) + 4) (now (out .entry)) at
         (now (name .entry) ++ Text.hex w) r (now (out .exit)) ⌝ }
 {

@@ -100,7 +100,8 @@ loop-holds c =
     record {
       inside = search needs;
       rest = tally-asked (sort q) (now (s .bank)) (s .who) (s .day) (free q) (h .before .if2 .left)
-          ∙ ap₂ (tallyFrom (s .day) (words (sort q) (now (s .bank)))) (sym (c .fresh .ensures)) (sym (h .log-in .ensures));
+          ∙ ap₂ (tallyFrom (s .day) (words (sort q) (now (s .bank)))) (sym (c .fresh .ensures))
+          (sym (h .log-in .ensures));
     }
 
 mul-m : tie.Need-mul-m Inv-loop μ-loop

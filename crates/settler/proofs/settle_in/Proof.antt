@@ -1,6 +1,6 @@
 -- settle_in: at every turn the whole ending is the ending from here on, with what is left of the budget. A step that is
--- taken moves one from the budget to the count (`from-turn`), and where none is left, or no budget, both end. What falls
--- is the budget that is left.
+-- taken moves one from the budget to the count (`from-turn`), and where none is left, or no budget, both end. What
+-- falls is the budget that is left.
 use Prim.Native.Nat.{ℕ, _-_, _≤_}
 use mathlib.Core.List.{List}
 use mathlib.Core.Path.{_≡_, refl, sym, ap, _∙_}

@@ -1,4 +1,4 @@
--- open_in: the tests come in the order of the table; a refused opening leaves the bank, and the rest is write_opening's.
+-- open_in: the tests come in the table's order; a refused opening leaves the bank, and the rest is write_opening's.
 use Prim.Native.Nat.{ℕ}
 use mathlib.Core.Path.{_≡_, refl, sym, _∙_}
 use mathlib.Core.Bool.{true, cond}
@@ -19,16 +19,32 @@ refused : (L : Layout) (b : List ℕ) (n k r : ℕ) → openRefusal L b n k ≡ 
 unfolding openOf
 refused L b n k r e h = rw (e, ne-eqb r 0 h)
 
-whole : (c : tie.Else1) → let a = c .before .before .before .args in length (a .bank .now) ≡ size (layout (a .room))
+-- where the length is right: the function's beginning
+abbrev start : tie.Else1 → tie.Start
+start c = c .before .before .before
+
+-- where n is in range: where the length was right
+abbrev at-length : tie.Else2 → tie.Else1
+at-length c = c .before .before
+
+-- where the mode is known: where n was in range
+abbrev at-size : tie.Else3 → tie.Else2
+at-size c = c .before .before
+
+-- where the bank is given back, opened: where the mode was known
+abbrev passed : tie.After-slice-known2 → tie.Else3
+passed c = c .before .before .before .before
+
+whole : (c : tie.Else1) → let a = start c .args in length (a .bank .now) ≡ size (layout (a .room))
 whole c = c .if1 .left ∙ c .before .size .ensures
 
-sized : (c : tie.Else2) → let a = c .before .before .before .before .before .args in isSize (layout (a .room)) (a .n) ≡ true
+sized : (c : tie.Else2) → let a = start (at-length c) .args in isSize (layout (a .room)) (a .n) ≡ true
 sized c = sym (c .before .is-size .ensures) ∙ not-false _ (c .if2 .left)
 
 -- what is left of the tests once the length and the size have passed
-from-mode : (c : tie.Else2) → let a = c .before .before .before .before .before .args in
+from-mode : (c : tie.Else2) → let a = start (at-length c) .args in
     openRefusal (layout (a .room)) (a .bank .now) (a .n) (a .mode) ≡ cond (isMode (a .mode)) 0 12
-from-mode c = rw (eq-eqb _ _ (whole (c .before .before)), sized c)
+from-mode c = rw (eq-eqb _ _ (whole (at-length c)), sized c)
 
 size-requires : tie.Need-size-requires
 size-requires c κs = search needs
@@ -53,11 +69,10 @@ returns-3 c =
     refused _ _ _ _ 12 (from-mode (c .before .before) ∙ stop 0 unknown refl) (omega arith)
 
 write-opening-requires : tie.Need-write-opening-requires
-write-opening-requires c κs = (
-  whole (c .before .before .before .before .before),
-  size-range (layout (c .before .before .before .before .before .before .before .before .args .room)) _
-      (sized (c .before .before .before)) .1,
-)
+write-opening-requires c κs =
+    let n = at-size (c .before) in
+    let l = at-length n in
+    (whole l, size-range (layout (start l .args .room)) _ (sized n) .1)
 
 same-length : tie.Need-same-length
 same-length c = search needs
@@ -65,9 +80,9 @@ same-length c = search needs
 returns-4 : tie.Need-returns-4
 unfolding openOf
 returns-4 c =
-    let passed = c .before .before .before .before in
-    let known = sym (passed .before .is-mode .ensures) ∙ not-false _ (passed .if3 .left) in
-    rw (c .before .before .write-opening .ensures, from-mode (passed .before .before) ∙ pass 12 known refl)
+    let p = passed c in
+    let known = sym (p .before .is-mode .ensures) ∙ not-false _ (p .if3 .left) in
+    rw (c .before .before .write-opening .ensures, from-mode (at-size p) ∙ pass 12 known refl)
 
 pub open-in-spec : {M : Type 1} → statement M
 open-in-spec =

@@ -12,6 +12,18 @@ use Rattle.bank.specs.Opening.{opening, opened}
 use Rattle.bank.proofs.opening.write_opening.Statement.{statement}
 use Rattle.bank.proofs.opening.write_opening.Tie as tie
 
+-- where the bank is all zeros: the function's beginning
+abbrev start : tie.After-clear → tie.Start
+start c = c .before .before .before
+
+-- where the set of all is made: where the bank was all zeros
+abbrev cleared : tie.After-all-below → tie.After-clear
+cleared c = c .before .before .before
+
+-- where the bank is given back, opened: where the set of all was made
+abbrev all-made : tie.After-slice-known3 → tie.After-all-below
+all-made c = c .before .before .before .before
+
 clear-requires : tie.Need-clear-requires
 clear-requires c κs = search needs
 
@@ -31,20 +43,19 @@ open-views-requires : tie.Need-open-views-requires
 open-views-requires c κs = simp length-set (omega arith)
 
 same-length : tie.Need-same-length
-same-length c =
-    let cleared = c .before .before .before .before .before .before .before in
-    c .before .before .open-views .kept .0 ∙ simp length-set (cleared .clear .kept .0)
+same-length c = c .before .before .open-views .kept .0 ∙ simp length-set (cleared (all-made c) .clear .kept .0)
 
 returns : tie.Need-returns
 unfolding opened
 returns c =
-    let up = c .before .before .before .before in
-    let cleared = up .before .before .before in
-    let a = cleared .before .before .before .args in
+    let up = all-made c in
+    let z = cleared up in
+    let a = start z .args in
     let whole : length (a .bank .now) ≡ size (layout (a .room)) = omega arith in
-    let all : up .all-below .result ≡ allBelow (a .n) = up .all-below .ensures ∙ ap allBelow (omega (arith, few (a .room))) in
-    let zeros : cleared .clear .last .0 ≡ replicate (size (layout (a .room))) 0 =
-    cleared .clear .ensures ∙ ap (λ k. replicate k 0) whole in
+    let all : up .all-below .result ≡ allBelow (a .n) =
+    up .all-below .ensures ∙ ap allBelow (omega (arith, few (a .room))) in
+    let zeros : z .clear .last .0 ≡ replicate (size (layout (a .room))) 0 =
+    z .clear .ensures ∙ ap (λ k. replicate k 0) whole in
     c .before .before .open-views .ensures
     ∙ rw all (ap (λ (b : List ℕ). puts (address (layout (a .room))) b (opening (a .n) (a .mode))) zeros)
 

@@ -21,36 +21,50 @@ fromCount L b = leb (words L b count) (L .messages) && every (logFits (words L b
 abbrev fromMode : Layout → List ℕ → Bool
 fromMode L b = isMode (words L b mode) && fromCount L b
 
--- the bank as it was lent, and its layout, once its length is right
+-- where the length is right: the function's beginning, the bank as it was lent, and its layout
+abbrev start : tie.Else1 → tie.Start
+start c = c .before .before .before
+
 abbrev lent : tie.Else1 → List ℕ
-lent c = c .before .before .before .args .bank .now
+lent c = start c .args .bank .now
 
 abbrev sort : tie.Else1 → Layout
-sort c = layout (c .before .before .before .args .room)
+sort c = layout (start c .args .room)
 
--- N was in range, the mode known: where the length was right
-abbrev at-size : tie.Else2 → tie.Else1
-at-size c = c .before .before .before
+-- where N is tested: where the length was right
+abbrev at-length : tie.After-is-size → tie.Else1
+at-length c = c .before .before
 
-abbrev at-known : tie.Else3 → tie.Else1
-at-known c = at-size (c .before .before .before)
+-- where the mode is tested: where N was in range
+abbrev at-size : tie.After-is-mode → tie.Else2
+at-size c = c .before .before
+
+-- where the count is tested: where the mode was known
+abbrev at-mode : tie.After-messages → tie.Else3
+at-mode c = c .before .before
+
+-- where N was in range, and where the mode was known: where the length was right
+abbrev of-size : tie.Else2 → tie.Else1
+of-size c = at-length (c .before)
+
+abbrev of-mode : tie.Else3 → tie.Else1
+of-mode c = of-size (at-size (c .before))
 
 whole : (c : tie.Else1) → length (lent c) ≡ size (sort c)
 whole c = c .if1 .left ∙ c .before .size .ensures
 
-sized : (c : tie.Else2) → isSize (sort (at-size c)) (words (sort (at-size c)) (lent (at-size c)) N) ≡ true
+sized : (c : tie.Else2) → isSize (sort (of-size c)) (words (sort (of-size c)) (lent (of-size c)) N) ≡ true
 sized c =
     rw (c .before .before .word .ensures) at (sym (c .before .is-size .ensures) ∙ not-false _ (c .if2 .left))
 
-from-mode : (c : tie.Else2) → fit (sort (at-size c)) (lent (at-size c)) ≡ fromMode (sort (at-size c)) (lent (at-size c))
-from-mode c = rw (eq-eqb _ _ (whole (at-size c)), sized c)
+from-mode : (c : tie.Else2) → let l = of-size c in fit (sort l) (lent l) ≡ fromMode (sort l) (lent l)
+from-mode c = rw (eq-eqb _ _ (whole (of-size c)), sized c)
 
-from-count : (c : tie.Else3) → fit (sort (at-known c)) (lent (at-known c)) ≡ fromCount (sort (at-known c))
-    (lent (at-known c))
+from-count : (c : tie.Else3) → let l = of-mode c in fit (sort l) (lent l) ≡ fromCount (sort l) (lent l)
 from-count c =
     let known =
     rw (c .before .before .word2 .ensures) at (sym (c .before .is-mode .ensures) ∙ not-false _ (c .if3 .left)) in
-    from-mode (c .before .before .before) ∙ rw known
+    from-mode (at-size (c .before)) ∙ rw known
 
 size-requires : tie.Need-size-requires
 size-requires c κs = search needs
@@ -68,7 +82,7 @@ returns-2 : tie.Need-returns-2
 returns-2 c =
     let outside =
     rw (c .before .before .word .ensures) at (sym (c .before .is-size .ensures) ∙ not-true _ (c .if2 .taken)) in
-    rw (eq-eqb _ _ (whole (c .before .before .before)), outside)
+    rw (eq-eqb _ _ (whole (at-length (c .before))), outside)
 
 word-requires-2 : tie.Need-word-requires-2
 word-requires-2 c κs = search needs
@@ -80,7 +94,7 @@ returns-3 : tie.Need-returns-3
 returns-3 c =
     let unknown =
     rw (c .before .before .word2 .ensures) at (sym (c .before .is-mode .ensures) ∙ not-true _ (c .if3 .taken)) in
-    rw (from-mode (c .before .before .before), unknown)
+    rw (from-mode (at-size (c .before)), unknown)
 
 word-requires-3 : tie.Need-word-requires-3
 word-requires-3 c κs = search needs
@@ -91,7 +105,7 @@ messages-requires c κs = search needs
 returns-4 : tie.Need-returns-4
 returns-4 c =
     let over = rw (c .before .messages .ensures, c .before .before .word3 .ensures) at (c .if4 .taken) in
-    rw (from-count (c .before .before .before), lt-leb _ _ over)
+    rw (from-count (at-mode (c .before)), lt-leb _ _ over)
 
 logs-fit-requires : tie.Need-logs-fit-requires
 logs-fit-requires c κs = search needs
@@ -100,8 +114,8 @@ returns-5 : tie.Need-returns-5
 returns-5 c =
     let test = c .before in
     let few = rw (test .before .messages .ensures, test .before .before .word3 .ensures) at (test .if4 .left) in
-    let passed = test .before .before .before in
-    let n = passed .before .before .before .before .before .word .ensures in
+    let passed = at-mode (test .before) in
+    let n = at-size (passed .before) .before .before .word .ensures in
     rw (from-count passed, le-leb _ _ few) (rw n at (c .logs-fit .ensures))
 
 pub fit-in-spec : {M : Type 1} → statement M

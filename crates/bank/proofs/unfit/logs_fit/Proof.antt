@@ -34,6 +34,10 @@ loop-holds c = record { inside = omega arith; so-far = refl }
 logged-requires : tie.Need-logged-requires Inv-loop μ-loop
 logged-requires c κs = search needs
 
+-- at a turn's beginning: the function's
+abbrev start : tie.At-loop Inv-loop μ-loop → tie.Start Inv-loop μ-loop
+start c = c .before .before .before
+
 -- where a log's length was read: the turn's beginning
 abbrev turn : tie.After-logged Inv-loop μ-loop → tie.At-loop Inv-loop μ-loop
 turn c = c .before .before
@@ -57,7 +61,7 @@ loop-again c =
 returns-2 : tie.Need-returns-2 Inv-loop μ-loop
 returns-2 c =
     let l = c .before .loop in
-    let all : l .i ≡ c .before .before .before .before .args .n = omega (arith, l .inv .inside) in
+    let all : l .i ≡ start (c .before) .args .n = omega (arith, l .inv .inside) in
     rw (← all) (sym (l .inv .so-far))
 
 pub logs-fit-spec : {M : Type 1} → statement M

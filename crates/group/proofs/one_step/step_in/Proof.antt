@@ -8,6 +8,10 @@ use borrow.Author.Needs.{needs}
 use Rattle.group.proofs.one_step.step_in.Statement.{statement}
 use Rattle.group.proofs.one_step.step_in.Tie as tie
 
+-- where the bank is given back, with the step taken: where nothing refused it
+abbrev free : tie.After-slice-known2 → tie.Else1
+free c = c .before .before .before .before
+
 refusal-in-requires : tie.Need-refusal-in-requires
 refusal-in-requires c κs = search needs
 
@@ -29,7 +33,7 @@ same-length-2 c = search needs
 returns-2 : tie.Need-returns-2
 unfolding stepOf
 returns-2 c =
-    let a = c .before .before .before .before in
+    let a = free c in
     let e = sym (a .before .refusal-in .ensures) ∙ a .if1 .left in
     ap₂ answer (sym e) (c .before .before .apply .ensures ∙ sym (pass _ (eq-eqb _ _ e) refl))
 

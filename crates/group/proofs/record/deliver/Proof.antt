@@ -1,9 +1,12 @@
 -- deliver: one word, who has delivered the message.
-use native.Mathlib.Omega.{arith}
 use Rattle.sets.proofs.Members.{join-with}
 use borrow.Author.Needs.{needs}
 use Rattle.group.proofs.record.deliver.Statement.{statement}
 use Rattle.group.proofs.record.deliver.Tie as tie
+
+-- where the set with i in it is made: the function's beginning
+abbrev start : tie.After-join → tie.Start
+start c = c .before .before .before
 
 slice-read-join : tie.Need-slice-read-join
 slice-read-join c = search needs
@@ -18,7 +21,7 @@ same-length : tie.Need-same-length
 same-length c = search needs
 
 returns : tie.Need-returns
-returns c = rw (c .join .ensures, join-with _ _ (c .before .before .before .pre .1))
+returns c = rw (c .join .ensures, join-with _ _ (start c .pre .1))
 
 pub deliver-spec : {M : Type 1} → statement M
 deliver-spec =

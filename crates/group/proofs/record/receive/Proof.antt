@@ -8,6 +8,10 @@ use borrow.Author.Needs.{needs}
 use Rattle.group.proofs.record.receive.Statement.{statement}
 use Rattle.group.proofs.record.receive.Tie as tie
 
+-- where the receiver has joined the holders: the function's beginning
+abbrev start : tie.After-join2 → tie.Start
+start c = c .before .before .before .before .before .before .before .before .before .before .before
+
 flight-at-requires : tie.Need-flight-at-requires
 flight-at-requires c κs = search needs
 
@@ -63,7 +67,7 @@ slice-write-record-3 : tie.Need-slice-write-record-3
 slice-write-record-3 c = simp length-set (omega arith)
 
 relay-requires : tie.Need-relay-requires
-relay-requires c κs = omega (arith, few (c .before .before .before .before .before .before .before .before .before .before .before .args .room))
+relay-requires c κs = omega (arith, few (start c .args .room))
 
 mul-record-3 : tie.Need-mul-record-3
 mul-record-3 c = search needs
@@ -74,22 +78,28 @@ slice-write-record-4 c = simp length-set (omega arith)
 same-length : tie.Need-same-length
 same-length c = search needs
 
+-- back from there: the copy was taken out of flight, held was read, the copies in flight were read, and before that the
+-- three places known (`rw` does not look through a station)
 returns : tie.Need-returns
 returns c =
-    let u = c .before .before .before .before .before .before .before .before in
-    let s = u .before .before .before .before .args in
+    let joined = c .before in
+    let taken-out = joined .before .before in
+    let held-read = taken-out .before .before in
+    let flight-read = held-read .before .before in
+    let placed = flight-read .before in
+    let s = start joined .args in
     let i : s .i < 16 = omega (arith, few (s .room)) in
     let f : s .from < 16 = omega (arith, few (s .room)) in
     rw (
-      c .before .before .before .without .ensures,
-      c .before .before .join .ensures,
-      c .before .join2 .ensures,
+      taken-out .without .ensures,
+      joined .before .join .ensures,
+      joined .join2 .ensures,
       c .relay .ensures,
+      placed .unsent-at .ensures,
+      placed .before .acked-at .ensures,
+      placed .before .before .flight-at .ensures,
       join-with _ _ i,
       join-with _ _ f,
-      u .unsent-at .ensures,
-      u .before .acked-at .ensures,
-      u .before .before .flight-at .ensures,
     )
 
 pub receive-spec : {M : Type 1} → statement M

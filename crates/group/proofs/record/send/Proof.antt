@@ -8,6 +8,10 @@ use borrow.Author.Needs.{needs}
 use Rattle.group.proofs.record.send.Statement.{statement}
 use Rattle.group.proofs.record.send.Tie as tie
 
+-- where both new words are made: the function's beginning
+abbrev start : tie.After-join → tie.Start
+start c = c .before .before .before .before .before .before .before
+
 unsent-at-requires : tie.Need-unsent-at-requires
 unsent-at-requires c κs = search needs
 
@@ -47,17 +51,19 @@ slice-write-record-2 c = simp length-set (omega arith)
 same-length : tie.Need-same-length
 same-length c = search needs
 
+-- back from there: both words were read, and before that both places known (`rw` does not look through a station)
 returns : tie.Need-returns
 returns c =
-    let f = c .before .before .before .before in
-    let s = f .before .before .before .args in
+    let words-read = c .before .before in
+    let placed = words-read .before .before in
+    let s = start c .args in
     let h : s .from < 16 = omega (arith, few (s .room)) in
     rw (
       c .before .without .ensures,
       c .join .ensures,
+      placed .before .unsent-at .ensures,
+      placed .flight-at .ensures,
       join-with _ _ h,
-      f .before .unsent-at .ensures,
-      f .flight-at .ensures,
     )
 
 pub send-spec : {M : Type 1} → statement M

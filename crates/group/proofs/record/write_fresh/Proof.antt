@@ -14,6 +14,14 @@ use borrow.Author.Needs.{needs}
 use Rattle.group.proofs.record.write_fresh.Statement.{statement}
 use Rattle.group.proofs.record.write_fresh.Tie as tie
 
+-- where the record is all zeros: the function's beginning
+abbrev start : tie.After-clear → tie.Start
+start c = c .before .before .before
+
+-- where the last word's place is known: where the record was all zeros
+abbrev cleared : tie.After-unsent-at → tie.After-clear
+cleared c = c .before .before .before .before .before
+
 clear-requires : tie.Need-clear-requires
 clear-requires c κs = search needs
 
@@ -49,13 +57,14 @@ same-length c = search needs
 
 returns : tie.Need-returns
 returns c =
-    let s = c .before .before .before .before .before .before .before .before in
+    let s = start (cleared c) in
+    let L = layout (s .args .room) in
     let n : ℕ = s .args .n in
     let who : ℕ = s .args .who in
     let h : who < 16 = omega (arith, few (s .args .room)) in
     let all : min n 16 ≡ n = omega (arith, few (s .args .room)) in
     rw (
-      c .before .before .before .before .before .clear .ensures,
+      cleared c .clear .ensures,
       c .before .before .join .ensures,
       c .before .all-below .ensures,
       c .unsent-at .ensures,
@@ -63,8 +72,8 @@ returns c =
       all,
       s .pre .0,
     )
-    (five-words (layout (s .args .room)) n who (s .args .s) (s .args .v) (s .pre .1)
-    ∙ sym (whole-record (layout (s .args .room)) (fresh n who (s .args .s) (s .args .v)) (now (s .args .«record»)) (s .pre .0)))
+    (five-words L n who (s .args .s) (s .args .v) (s .pre .1)
+    ∙ sym (whole-record L (fresh n who (s .args .s) (s .args .v)) (now (s .args .«record»)) (s .pre .0)))
 
 pub write-fresh-spec : {M : Type 1} → statement M
 write-fresh-spec =

@@ -1,165 +1,120 @@
 -- apply: each arm's kind is the step that the four numbers ask for, and nothing refuses it.
 use borrow.Author.Needs.{needs}
-use mathlib.Core.Path.{_≡_, sym, ap, _∙_}
+use borrow.Author.Tests.{ne-eqb}
+use mathlib.Core.Path.{_≡_, ap}
 use mathlib.Core.Bool.{Bool, _&&_}
-use mathlib.Core.List.{List}
 use mathlib.Core.Option.{some}
 use Prim.Native.Nat.{ℕ}
 use lib.Dec.{eqb}
 use denote.Ref.{now}
 use Rattle.bank.specs.Layout.{layout}
-use Rattle.refusals.specs.Step.{Step, broadcast, send, receive, deliver, crash, detect, lose, Asked, ask, asked, unused}
+use Rattle.refusals.specs.Step.{Step, deliver, crash, detect, Asked, ask, asked, unused}
 use Rattle.refusals.specs.Promises.{Allowed}
-use Rattle.group.specs.Promises.{after, askedAfter}
-use Rattle.refusals.proofs.Accepted.{allowed-step, asked-free, not-asked}
+use Rattle.refusals.proofs.Accepted.{allowed-step, asked-free}
 use Rattle.group.proofs.steps.apply.Statement.{statement}
 use Rattle.group.proofs.steps.apply.Tie as tie
 
--- the four numbers, and that they ask for a step
-abbrev numbers : tie.Start → Asked
-numbers c = ask (c .args .kind) (c .args .a) (c .args .b) (c .args .c)
+-- at the match: the four numbers, and that they ask for a step
+abbrev numbers : tie.After-slice-known → Asked
+numbers c = let a = c .before .args in ask (a .kind) (a .a) (a .b) (a .c)
 
-abbrev Asks : tie.Start → Step → Type 0
+abbrev Asks : tie.After-slice-known → Step → Type 0
 Asks c s = asked (numbers c) ≡ some s
 
-allowed : (c : tie.Start) (s : Step) → Asks c s → Allowed (layout (c .args .room)) (now (c .args .bank)) s
-allowed c s e = allowed-step (layout (c .args .room)) (now (c .args .bank)) (numbers c) s (c .pre) e
+allowed : (c : tie.After-slice-known) (s : Step) → Asks c s → let a = c .before .args in
+    Allowed (layout (a .room)) (now (a .bank)) s
+allowed c s e =
+    let a = c .before .args in allowed-step (layout (a .room)) (now (a .bank)) (numbers c) s (c .before .pre) e
 
-done : (c : tie.Start) (s : Step) → Asks c s → {l : List ℕ} → l ≡ after (layout (c .args .room)) (now (c .args .bank)) s
-    → l ≡ askedAfter (layout (c .args .room)) (now (c .args .bank)) (asked (numbers c))
-done c s e h = h ∙ sym (ap (askedAfter (layout (c .args .room)) (now (c .args .bank))) e)
+-- the kind's own step, and one with numbers that it does not use
+asks : (c : tie.After-slice-known) (k : ℕ) → c .before .args .kind ≡ k → let a = c .before .args in
+    asked (numbers c) ≡ asked (ask k (a .a) (a .b) (a .c))
+asks c k e = let a = c .before .args in ap (λ (k : ℕ). asked (ask k (a .a) (a .b) (a .c))) e
 
--- a kind's own step, and one with numbers that it does not use
-asks : (c : tie.Start) (k : ℕ) → c .args .kind ≡ k
-    → asked (numbers c) ≡ asked (ask k (c .args .a) (c .args .b) (c .args .c))
-asks c k e = ap (λ (k : ℕ). asked (ask k (c .args .a) (c .args .b) (c .args .c))) e
-
-asks-unused : (c : tie.Start) (t : Bool) (s : Step)
-    → asked (numbers c) ≡ unused t s → Asks c s
+asks-unused : (c : tie.After-slice-known) (t : Bool) (s : Step) → asked (numbers c) ≡ unused t s → Asks c s
 asks-unused c t s e =
-    asked-free (layout (c .args .room)) (now (c .args .bank)) (numbers c) t s (c .pre) e
+    let a = c .before .args in asked-free (layout (a .room)) (now (a .bank)) (numbers c) t s (c .before .pre) e
 
--- ---- arm by arm
-
-is-broadcast : (c : tie.At-match-keys1) → let s = c .before .before .args in Asks (c .before .before) (broadcast
-    (s .a) (s .b) (s .c))
-is-broadcast c = asks (c .before .before) 1 (c .match .keys1)
-
-is-send : (c : tie.At-match-keys2) → let s = c .before .before .args in Asks (c .before .before) (send (s .a) (s .b)
-    (s .c))
-is-send c = asks (c .before .before) 2 (c .match .keys2)
-
-is-receive : (c : tie.At-match-keys3) → let s = c .before .before .args in Asks (c .before .before) (receive (s .a)
-    (s .b) (s .c))
-is-receive c = asks (c .before .before) 3 (c .match .keys3)
-
-is-deliver : (c : tie.At-match-keys4) → let s = c .before .before .args in Asks (c .before .before) (deliver (s .a)
-    (s .b))
+is-deliver : (c : tie.At-match-keys4) → let a = c .before .before .args in Asks (c .before) (deliver (a .a) (a .b))
 is-deliver c =
-    asks-unused (c .before .before) (eqb (c .before .before .args .c) 0) _
-    (asks (c .before .before) 4 (c .match .keys4))
+    let a = c .before .before .args in asks-unused (c .before) (eqb (a .c) 0) _ (asks (c .before) 4 (c .match .keys4))
 
-is-crash : (c : tie.At-match-keys5) → let s = c .before .before .args in Asks (c .before .before) (crash (s .a))
+is-crash : (c : tie.At-match-keys5) → let a = c .before .before .args in Asks (c .before) (crash (a .a))
 is-crash c =
-    asks-unused (c .before .before) (eqb (c .before .before .args .b) 0 && eqb (c .before .before .args .c) 0) _
-    (asks (c .before .before) 5 (c .match .keys5))
+    let a = c .before .before .args in
+    asks-unused (c .before) (eqb (a .b) 0 && eqb (a .c) 0) _ (asks (c .before) 5 (c .match .keys5))
 
-is-detect : (c : tie.At-match-keys6) → let s = c .before .before .args in Asks (c .before .before) (detect (s .a)
-    (s .b))
+is-detect : (c : tie.At-match-keys6) → let a = c .before .before .args in Asks (c .before) (detect (a .a) (a .b))
 is-detect c =
-    asks-unused (c .before .before) (eqb (c .before .before .args .c) 0) _
-    (asks (c .before .before) 6 (c .match .keys6))
+    let a = c .before .before .args in asks-unused (c .before) (eqb (a .c) 0) _ (asks (c .before) 6 (c .match .keys6))
 
-is-lose : (c : tie.At-match-keys7) → let s = c .before .before .args in Asks (c .before .before) (lose (s .a) (s .b)
-    (s .c))
-is-lose c = asks (c .before .before) 7 (c .match .keys7)
+-- ---- arm by arm: the step may be taken, and what it left is what was asked for
 
 broadcast-requires : tie.Need-broadcast-requires
-broadcast-requires c κs = allowed (c .before .before .before) _ (is-broadcast (c .before))
+broadcast-requires c κs = let a = c .before in allowed (a .before) _ (asks (a .before) 1 (a .match .keys1))
 
 send-requires : tie.Need-send-requires
-send-requires c κs = allowed (c .before .before .before) _ (is-send (c .before))
+send-requires c κs = let a = c .before in allowed (a .before) _ (asks (a .before) 2 (a .match .keys2))
 
 receive-requires : tie.Need-receive-requires
-receive-requires c κs = allowed (c .before .before .before) _ (is-receive (c .before))
+receive-requires c κs = let a = c .before in allowed (a .before) _ (asks (a .before) 3 (a .match .keys3))
 
 deliver-requires : tie.Need-deliver-requires
-deliver-requires c κs = allowed (c .before .before .before) _ (is-deliver (c .before))
+deliver-requires c κs = allowed (c .before .before) _ (is-deliver (c .before))
 
 crash-requires : tie.Need-crash-requires
-crash-requires c κs = allowed (c .before .before .before) _ (is-crash (c .before))
+crash-requires c κs = allowed (c .before .before) _ (is-crash (c .before))
 
 detect-requires : tie.Need-detect-requires
-detect-requires c κs = allowed (c .before .before .before) _ (is-detect (c .before))
+detect-requires c κs = allowed (c .before .before) _ (is-detect (c .before))
 
 lose-requires : tie.Need-lose-requires
-lose-requires c κs = allowed (c .before .before .before) _ (is-lose (c .before))
+lose-requires c κs = let a = c .before in allowed (a .before) _ (asks (a .before) 7 (a .match .keys7))
 
 same-length : tie.Need-same-length
 same-length c = search needs
 
 returns : tie.Need-returns
-returns c =
-    let a = c .before .before .before .before in
-    done (a .before .before) _ (is-broadcast a) (c .before .before .broadcast .ensures)
+returns c = let done = c .before .before in rw (done .before .before .match .keys1) (done .broadcast .ensures)
 
 same-length-2 : tie.Need-same-length-2
 same-length-2 c = search needs
 
 returns-2 : tie.Need-returns-2
-returns-2 c =
-    let a = c .before .before .before .before in
-    done (a .before .before) _ (is-send a) (c .before .before .send .ensures)
+returns-2 c = let done = c .before .before in rw (done .before .before .match .keys2) (done .send .ensures)
 
 same-length-3 : tie.Need-same-length-3
 same-length-3 c = search needs
 
 returns-3 : tie.Need-returns-3
-returns-3 c =
-    let a = c .before .before .before .before in
-    done (a .before .before) _ (is-receive a) (c .before .before .receive .ensures)
+returns-3 c = let done = c .before .before in rw (done .before .before .match .keys3) (done .receive .ensures)
 
 same-length-4 : tie.Need-same-length-4
 same-length-4 c = search needs
 
 returns-4 : tie.Need-returns-4
-returns-4 c =
-    let a = c .before .before .before .before in
-    done (a .before .before) _ (is-deliver a) (c .before .before .deliver .ensures)
+returns-4 c = let done = c .before .before in rw (is-deliver (done .before .before)) (done .deliver .ensures)
 
 same-length-5 : tie.Need-same-length-5
 same-length-5 c = search needs
 
 returns-5 : tie.Need-returns-5
-returns-5 c =
-    let a = c .before .before .before .before in
-    done (a .before .before) _ (is-crash a) (c .before .before .crash .ensures)
+returns-5 c = let done = c .before .before in rw (is-crash (done .before .before)) (done .crash .ensures)
 
 same-length-6 : tie.Need-same-length-6
 same-length-6 c = search needs
 
 returns-6 : tie.Need-returns-6
-returns-6 c =
-    let a = c .before .before .before .before in
-    done (a .before .before) _ (is-detect a) (c .before .before .detect .ensures)
+returns-6 c = let done = c .before .before in rw (is-detect (done .before .before)) (done .detect .ensures)
 
 same-length-7 : tie.Need-same-length-7
 same-length-7 c = search needs
 
 returns-7 : tie.Need-returns-7
-returns-7 c =
-    let a = c .before .before .before .before in
-    done (a .before .before) _ (is-lose a) (c .before .before .lose .ensures)
+returns-7 c = let done = c .before .before in rw (done .before .before .match .keys7) (done .lose .ensures)
 
 returns-8 : tie.Need-returns-8
-returns-8 c =
-    let s = c .before .before .args in
-    let r = c .match .rest in
-    sym
-    (ap (askedAfter (layout (s .room)) (now (s .bank)))
-    (not-asked (numbers (c .before .before)) (r .0 .0 .0 .0 .0 .0 .1) (r .0 .0 .0 .0 .0 .1) (r .0 .0 .0 .0 .1)
-    (r .0 .0 .0 .1)
-    (r .0 .0 .1) (r .0 .1) (r .1)))
+returns-8 c = search ne-eqb
 
 pub apply-spec : {M : Type 1} → statement M
 apply-spec =

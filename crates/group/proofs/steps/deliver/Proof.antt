@@ -1,22 +1,21 @@
 -- deliver: the record is lent and marked, then the log's next entry and its length; the log has room because nothing
 -- refused.
-use mathlib.Core.Path.{_≡_, sym, ap, ap₂, subst, _∙_}
+use mathlib.Core.Path.{_≡_, sym, ap, subst, _∙_}
 use mathlib.Core.List.{List}
-use Prim.Native.Nat.{ℕ, _+_, _-_, _≤_, _<_}
+use Prim.Native.Nat.{ℕ, _+_, _-_, _<_}
 use native.Mathlib.Omega.{arith}
 use denote.Ref.{now}
 use borrow.Rule.Slice.PartMut.{putMid}
-use lib.ListN.{length, getD, set, length-set, length-take, length-drop}
-use Rattle.bank.specs.Place.{recordOf, logLength, log, _≔_}
-use Rattle.bank.specs.Layout.{Layout, layout, address, recordAt, recordSize, words, puts, inRecord, changed}
-use Rattle.bank.proofs.Places.{inside, record-inside}
+use lib.ListN.{length, getD, set, length-set}
+use Rattle.bank.specs.Place.{recordOf, logLength, log}
+use Rattle.bank.specs.Layout.{Layout, layout, address, words, puts, inRecord}
+use Rattle.bank.proofs.Places.{inside}
 use Rattle.bank.proofs.Rooms.{few, short}
-use Rattle.bank.proofs.Lending.{part, lent-whole}
-use Rattle.bank.proofs.Reading.{puts-append}
+use Rattle.bank.proofs.Lending.{Lends, lends, lent-inside, lent-length, lent-whole}
 use Rattle.group.specs.Writes.{marked}
 use Rattle.refusals.proofs.Granted.{Delivers, deliver-granted}
 use Rattle.refusals.proofs.Bounds.{controller-below, message-below}
-use Rattle.group.proofs.Changes.{marked-rests, marked-within}
+use Rattle.group.proofs.Changes.{marked-change}
 use borrow.Author.Needs.{needs}
 use Rattle.group.proofs.steps.deliver.Statement.{statement}
 use Rattle.group.proofs.steps.deliver.Tie as tie
@@ -46,34 +45,47 @@ here c =
       room = message-below (sort c) b (c .pre .sound) (length₀ c) (g .room);
     }
 
--- the record ends in the bank, and both words of the log stand in it
-fits : (c : tie.Start) → recordAt (sort c) (c .args .m) + recordSize (sort c) ≤ length (now (c .args .bank))
-fits c = rw (c .pre .sound .whole) (record-inside (sort c) (c .args .m) (here c .given))
+-- where the log's length is looked up: the function's beginning
+abbrev begun : tie.After-length-at → tie.Start
+begun c = c .before .before
 
-length-in : (c : tie.Start) → address (sort c) (logLength (c .args .i)) < length (now (c .args .bank))
-length-in c = rw (c .pre .sound .whole) (inside (sort c) (logLength (c .args .i)) (here c .there))
+-- where the record is lent: the log's next entry, its length, and the function's beginning
+abbrev entry : tie.After-record-end → tie.After-log-at
+entry c = c .before .before
 
-entry-in : (c : tie.Start) → address (sort c) (log (c .args .i) (length₀ c)) < length (now (c .args .bank))
-entry-in c = rw (c .pre .sound .whole) (inside (sort c) (log (c .args .i) (length₀ c)) (here c .there, here c .room))
+abbrev counted : tie.After-record-end → tie.After-length-at
+counted c = entry c .before .before
 
--- where the record is lent: the function's beginning; where the log is written: the lending, and its place
 abbrev start : tie.After-record-end → tie.Start
-start c = c .before .before .before .before .before .before
+start c = begun (counted c)
 
+-- where the bank is whole again: where the record was lent
 abbrev lent : tie.After-slice-known3 → tie.After-record-end
 lent c = c .before .before .before .before
 
-abbrev logged : tie.After-record-end → tie.After-log-at
-logged c = c .before .before
-
-within : (c : tie.After-record-end) → c .record-end .result ≤ length (now (start c .args .bank))
-within c =
-    subst (λ x. x ≤ length (now (start c .args .bank))) (sym (c .record-end .ensures)) (fits (start c))
+lending : (c : tie.After-record-end) → let a = start c .args in
+    Lends (sort (start c)) (now (a .bank)) (a .m) (c .before .record-at .result) (c .record-end .result)
+lending c =
+    let s = start c in
+    lends (s .pre .sound .whole) (here s .given) (c .before .record-at .ensures) (c .record-end .ensures)
 
 -- the log's length as it is read
-read : (c : tie.After-length-at) → let s = c .before .before in
+read : (c : tie.After-length-at) → let s = begun c in
     getD (now (s .args .bank)) (c .length-at .result) 0 ≡ length₀ s
-read c = ap (λ (x : ℕ). getD (now (c .before .before .args .bank)) x 0) (c .length-at .ensures)
+read c = ap (λ (x : ℕ). getD (now (begun c .args .bank)) x 0) (c .length-at .ensures)
+
+-- both words of the log stand in the bank
+length-in : (c : tie.After-length-at) → c .length-at .result < length (now (begun c .args .bank))
+length-in c =
+    let s = begun c in
+    let h = inside (sort s) (logLength (s .args .i)) (here s .there) in
+    omega (arith, c .length-at .ensures, s .pre .sound .whole)
+
+entry-in : (c : tie.After-record-end) → entry c .log-at .result < length (now (start c .args .bank))
+entry-in c =
+    let s = start c in
+    let h = inside (sort s) (log (s .args .i) (length₀ s)) (here s .there, here s .room) in
+    omega (arith, entry c .log-at .ensures, read (counted c), s .pre .sound .whole)
 
 -- the lent record was put back: the bank is as long as it was
 as-long : (c : tie.After-slice-known3) → let w = lent c in let a = w .before .record-at .result in
@@ -88,9 +100,7 @@ mul-length : tie.Need-mul-length
 mul-length c = search needs
 
 slice-read-length : tie.Need-slice-read-length
-slice-read-length c =
-    let s = c .before .before .before in
-    subst (λ x. x < length (now (s .args .bank))) (sym (c .before .length-at .ensures)) (length-in s)
+slice-read-length c = length-in (c .before)
 
 log-at-requires : tie.Need-log-at-requires
 log-at-requires c κs = search needs
@@ -102,7 +112,7 @@ record-end-requires : tie.Need-record-end-requires
 record-end-requires c κs = search needs
 
 mul-deliver : tie.Need-mul-deliver
-mul-deliver c = let h = within c in omega arith
+mul-deliver c = let h = lent-inside (lending c) in omega arith
 
 sub-deliver : tie.Need-sub-deliver
 sub-deliver c = search needs
@@ -111,73 +121,57 @@ part-deliver-start : tie.Need-part-deliver-start
 part-deliver-start c = search needs
 
 part-deliver-end : tie.Need-part-deliver-end
-part-deliver-end c = within c
+part-deliver-end c = lent-inside (lending c)
 
 deliver-requires : tie.Need-deliver-requires
 deliver-requires c κs =
-    let s = start (c .before) in (
-      simp (length-take, length-drop)
-          (omega (arith, c .before .record-end .ensures, c .before .before .record-at .ensures, fits s)),
-      omega (arith, here s .there, few (s .args .room)),
-    )
+    let s = start (c .before) in
+    (lent-length (lending (c .before)), omega (arith, here s .there, few (s .args .room)))
 
 mul-bank : tie.Need-mul-bank
-mul-bank c =
-    let s = start (lent c) in
-    let e = entry-in s in
-    omega (arith, logged (lent c) .log-at .ensures, read (logged (lent c) .before .before))
+mul-bank c = let h = entry-in (lent c) in omega arith
 
 slice-write-bank : tie.Need-slice-write-bank
-slice-write-bank c =
-    let s = start (lent c) in
-    let e = entry-in s in
-    let here : logged (lent c) .log-at .result < length (now (s .args .bank)) =
-    omega (arith, logged (lent c) .log-at .ensures, read (logged (lent c) .before .before)) in
-    subst (λ n. logged (lent c) .log-at .result < n) (sym (as-long c)) here
+slice-write-bank c = subst (λ n. entry (lent c) .log-at .result < n) (sym (as-long c)) (entry-in (lent c))
 
 add-bank : tie.Need-add-bank
 add-bank c =
     let s = start (lent c) in
-    omega (arith, here s .room, short (s .args .room), read (logged (lent c) .before .before))
+    omega (arith, here s .room, short (s .args .room), read (counted (lent c)))
 
 mul-bank-2 : tie.Need-mul-bank-2
 mul-bank-2 c = search needs
 
 slice-write-bank-2 : tie.Need-slice-write-bank-2
 slice-write-bank-2 c =
-    let l = logged (lent c) .before .before in
-    let here = subst (λ x. x < length (now (l .before .before .args .bank))) (sym (l .length-at .ensures))
-    (length-in (l .before .before)) in
-    subst (λ n. l .length-at .result < n) (sym (simp length-set (as-long c))) here
+    let l = counted (lent c) in
+    subst (λ n. l .length-at .result < n) (sym (simp length-set (as-long c))) (length-in l)
 
 same-length : tie.Need-same-length
 same-length c = search needs
 
 -- the bank with the record put back is the bank with its mark
-marked-bank : (c : tie.After-slice-known3) → let w = lent c in let s = start w in let a = w .before .record-at .result in
+marked-bank : (c : tie.After-slice-known3)
+    → let w = lent c in let s = start w in let a = w .before .record-at .result in
     putMid a (w .record-end .result - a) (now (s .args .bank)) (c .before .before .deliver .last .0)
     ≡ puts (address (sort s)) (now (s .args .bank))
     (inRecord (s .args .m) (marked (s .args .i) (recordOf (words (sort s) (now (s .args .bank))) (s .args .m))))
 marked-bank c =
     let w = lent c in
     let s = start w in
-    let L = sort s in
-    let b = now (s .args .bank) in
-    let i : ℕ = s .args .i in
     let a : ℕ = w .before .record-at .result in
-    ap (λ (r : List ℕ). putMid a (w .record-end .result - a) b r) (c .before .before .deliver .ensures)
-    ∙ ap₂ (λ (x y : ℕ). putMid x (y - x) b (changed L (marked i) (part x (y - x) b))) (w .before .record-at .ensures)
-    (w .record-end .ensures)
-    ∙ lent-whole L (s .args .m) b (fits s) (marked i) (marked-rests L i) (marked-within L i)
+    let k : ℕ = w .record-end .result - a in
+    ap (λ (r : List ℕ). putMid a k (now (s .args .bank)) r) (c .before .before .deliver .ensures)
+    ∙ lent-whole (lending w) _ (marked-change (sort s) (s .args .i))
 
 returns : tie.Need-returns
 returns c =
     let w = lent c in
     let s = start w in
-    let k = read (logged w .before .before) in
-    let entry = logged w .log-at .ensures ∙ ap (λ (x : ℕ). address (sort s) (log (s .args .i) x)) k in
-    let tail = logged w .before .before .length-at .ensures in
-    λ j. set (set (marked-bank c j) (entry j) (s .args .m)) (tail j) (k j + 1)
+    let k = read (counted w) in
+    let at = entry w .log-at .ensures ∙ ap (λ (x : ℕ). address (sort s) (log (s .args .i) x)) k in
+    let tail = counted w .length-at .ensures in
+    λ j. set (set (marked-bank c j) (at j) (s .args .m)) (tail j) (k j + 1)
 
 pub deliver-spec : {M : Type 1} → statement M
 deliver-spec =

@@ -1,16 +1,11 @@
 -- lose: as a send, of one word.
-use mathlib.Core.Path.{sym, subst}
-use Prim.Native.Nat.{ℕ, _+_, _≤_}
 use native.Mathlib.Omega.{arith}
 use denote.Ref.{now}
-use lib.ListN.{length, length-take, length-drop}
-use Rattle.bank.specs.Layout.{Layout, layout, recordAt, recordSize}
-use Rattle.bank.proofs.Places.{record-inside}
-use Rattle.bank.proofs.Lending.{lent-whole}
-use Rattle.group.specs.Writes.{lost}
+use Rattle.bank.specs.Layout.{Layout, layout}
+use Rattle.bank.proofs.Lending.{Lends, lends, lent-inside, lent-length, lent-whole}
 use Rattle.refusals.proofs.Granted.{lose-granted}
 use Rattle.refusals.proofs.Bounds.{EndsIn, ends-below}
-use Rattle.group.proofs.Changes.{lost-rests, lost-within}
+use Rattle.group.proofs.Changes.{lost-change}
 use borrow.Author.Needs.{needs}
 use Rattle.group.proofs.steps.lose.Statement.{statement}
 use Rattle.group.proofs.steps.lose.Tie as tie
@@ -22,17 +17,19 @@ sort c = layout (c .args .room)
 here : (c : tie.Start) → EndsIn (sort c) (c .args .from) (c .args .to) (c .args .m)
 here c = ends-below (sort c) (now (c .args .bank)) (c .pre .sound) (lose-granted (sort c) _ (c .pre .free) .ends)
 
--- the record ends in the bank
-fits : (c : tie.Start) → recordAt (sort c) (c .args .m) + recordSize (sort c) ≤ length (now (c .args .bank))
-fits c = rw (c .pre .sound .whole) (record-inside (sort c) (c .args .m) (here c .message))
-
 -- where the record is lent: the function's beginning
 abbrev start : tie.After-record-end → tie.Start
 start c = c .before .before .before
 
-within : (c : tie.After-record-end) → c .record-end .result ≤ length (now (start c .args .bank))
-within c =
-    subst (λ x. x ≤ length (now (start c .args .bank))) (sym (c .record-end .ensures)) (fits (start c))
+lending : (c : tie.After-record-end) → let a = start c .args in
+    Lends (sort (start c)) (now (a .bank)) (a .m) (c .before .record-at .result) (c .record-end .result)
+lending c =
+    let s = start c in
+    lends (s .pre .sound .whole) (here s .message) (c .before .record-at .ensures) (c .record-end .ensures)
+
+-- where the bank is whole again: where the record was lent
+abbrev lent : tie.After-slice-known2 → tie.After-record-end
+lent c = c .before .before .before .before
 
 record-at-requires : tie.Need-record-at-requires
 record-at-requires c κs = search needs
@@ -41,7 +38,7 @@ record-end-requires : tie.Need-record-end-requires
 record-end-requires c κs = search needs
 
 mul-lose : tie.Need-mul-lose
-mul-lose c = let h = within c in omega arith
+mul-lose c = let h = lent-inside (lending c) in omega arith
 
 sub-lose : tie.Need-sub-lose
 sub-lose c = search needs
@@ -50,25 +47,20 @@ part-lose-start : tie.Need-part-lose-start
 part-lose-start c = search needs
 
 part-lose-end : tie.Need-part-lose-end
-part-lose-end c = within c
+part-lose-end c = lent-inside (lending c)
 
 lose-requires : tie.Need-lose-requires
-lose-requires c κs =
-    let e = here (start (c .before)) in
-    (simp (length-take, length-drop) (omega (arith, c .before .record-end .ensures, c .before .before .record-at .ensures, fits (start (c .before)))), e .second)
+lose-requires c κs = (lent-length (lending (c .before)), here (start (c .before)) .second)
 
 same-length : tie.Need-same-length
 same-length c = search needs
 
 returns : tie.Need-returns
 returns c =
-    let w = c .before .before .before .before in
+    let w = lent c in
     let s = start w in
-    let L = sort s in
-    let e = here s in
-    rw (c .before .before .lose .ensures, w .before .record-at .ensures, w .record-end .ensures)
-    (lent-whole L (s .args .m) (now (s .args .bank)) (fits s) (lost (s .args .from) (s .args .to))
-    (lost-rests L (s .args .from) (e .second)) (lost-within L (s .args .from) (e .second)))
+    rw (c .before .before .lose .ensures)
+    (lent-whole (lending w) _ (lost-change (sort s) (s .args .from) (s .args .to) (here s .second)))
 
 pub lose-spec : {M : Type 1} → statement M
 lose-spec =

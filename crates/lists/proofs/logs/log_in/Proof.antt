@@ -1,28 +1,31 @@
 -- log_in: a refused question hands back a part of length 0; else the part begins at the log and is as long as it says.
 use mathlib.Core.Path.{_≡_, refl, sym, ap, ap₂, _∙_}
 use mathlib.Core.List.{List}
-use Prim.Native.Nat.{ℕ, _+_, _-_, _≤_}
+use Prim.Native.Nat.{ℕ, _-_, _≤_}
 use native.Mathlib.Omega.{arith}
 use denote.Ref.{now}
 use lib.ListN.{length, take, drop}
 use Rattle.bank.specs.Place.{log, logLength}
 use Rattle.bank.specs.Layout.{Layout, layout, address, words}
 use Rattle.bank.proofs.Places.{log-within}
-use Rattle.lists.specs.Logs.{logRefusal, usedLength}
+use Rattle.lists.specs.Logs.{logRefusal}
 use Rattle.lists.proofs.Asking.{no-length, whole-length, log-asked}
 use borrow.Author.Needs.{needs}
 use Rattle.lists.proofs.logs.log_in.Statement.{statement}
 use Rattle.lists.proofs.logs.log_in.Tie as tie
 
--- the layout, the bank and who is asked about, once the length is answered
+-- where the length is answered: the function's beginning, the layout, the bank and who is asked about
+abbrev start : tie.After-struct-known → tie.Start
+start c = c .before .before .before
+
 abbrev sort : tie.After-struct-known → Layout
-sort c = layout (c .before .before .before .args .room)
+sort c = layout (start c .args .room)
 
 abbrev lent : tie.After-struct-known → List ℕ
-lent c = now (c .before .before .before .args .bank)
+lent c = now (start c .args .bank)
 
 abbrev asker : tie.After-struct-known → ℕ
-asker c = c .before .before .before .args .who
+asker c = start c .args .who
 
 -- where the log's beginning was asked for: the answer
 abbrev known : tie.After-log-at → tie.After-struct-known
@@ -36,13 +39,15 @@ within : (c : tie.After-log-at2) → c .log-at2 .result ≤ length (lent (known 
 within c =
     let f = known (c .before) in
     let k = log-asked (sort f) (lent f) (asker f) (free (c .before .before)) in
-    let n = f .before .log-length-in .ensures .1 ∙ whole-length (sort f) (lent f) (asker f) (free (c .before .before)) in
+    let n =
+    f .before .log-length-in .ensures .1 ∙ whole-length (sort f) (lent f) (asker f) (free (c .before .before)) in
     omega (
       arith,
       c .log-at2 .ensures,
       k .sound .whole,
       n,
-      log-within (sort f) (asker f) (words (sort f) (lent f) (logLength (asker f))) (omega (arith, k .there, k .sound .few)) (omega (arith, k .short, k .sound .given)),
+      log-within (sort f) (asker f) (words (sort f) (lent f) (logLength (asker f)))
+          (omega (arith, k .there, k .sound .few)) (omega (arith, k .short, k .sound .given)),
     )
 
 log-length-in-requires : tie.Need-log-length-in-requires
@@ -89,7 +94,8 @@ returns-2 c =
     let f = known (e .before) in
     let n : ℕ = f .before .log-length-in .result .length in
     let a : ℕ = address (sort f) (log (asker f) 0) in
-    let k : e .log-at2 .result - e .before .log-at .result ≡ n = omega (arith, e .log-at2 .ensures, e .before .log-at .ensures) in
+    let k : e .log-at2 .result - e .before .log-at .result ≡ n =
+    omega (arith, e .log-at2 .ensures, e .before .log-at .ensures) in
     ap₂ (λ (x y : ℕ). take x (drop y (lent f))) (k ∙ f .before .log-length-in .ensures .1) (e .before .log-at .ensures)
 
 pub log-in-spec : {M : Type 1} → statement M

@@ -13,17 +13,22 @@ use borrow.Author.Needs.{needs}
 use Rattle.lists.proofs.logs.log_length_in.Statement.{statement}
 use Rattle.lists.proofs.logs.log_length_in.Tie as tie
 
--- the layout, the bank and who is asked about, once the bank is known to be fit
-abbrev sort : tie.Else1 → Layout
-sort c = layout (c .before .before .before .args .room)
+-- where the bank's fitness is answered: the function's beginning
+abbrev start : tie.After-fit-in → tie.Start
+start c = c .before .before
 
-abbrev lent : tie.Else1 → List ℕ
-lent c = now (c .before .before .before .args .bank)
+-- the layout, the bank and who is asked about
+abbrev sort : tie.After-fit-in → Layout
+sort c = layout (start c .args .room)
 
-abbrev asker : tie.Else1 → ℕ
-asker c = c .before .before .before .args .who
+abbrev lent : tie.After-fit-in → List ℕ
+lent c = now (start c .args .bank)
 
-sound : (c : tie.Else1) → fit (sort c) (lent c) ≡ true
+abbrev asker : tie.After-fit-in → ℕ
+asker c = start c .args .who
+
+-- where the bank is fit
+sound : (c : tie.Else1) → fit (sort (c .before)) (lent (c .before)) ≡ true
 sound c = sym (c .before .fit-in .ensures) ∙ not-false _ (c .if1 .left)
 
 fit-in-requires : tie.Need-fit-in-requires
@@ -31,20 +36,19 @@ fit-in-requires c κs = search needs
 
 returns : tie.Need-returns
 returns c =
-    let s = c .before .before .before .args in
-    let L = layout (s .room) in
-    let b = now (s .bank) in
-    let e = log-unfit L b (s .who) (sym (c .before .fit-in .ensures) ∙ not-true _ (c .if1 .taken)) in
-    (sym e, sym (no-length L b (s .who) 1 e (λ z. omega arith)))
+    let f = c .before in
+    let e = log-unfit (sort f) (lent f) (asker f) (sym (f .fit-in .ensures) ∙ not-true _ (c .if1 .taken)) in
+    (sym e, sym (no-length (sort f) (lent f) (asker f) 1 e (λ z. omega arith)))
 
 word-requires : tie.Need-word-requires
 word-requires c κs = search needs
 
 returns-2 : tie.Need-returns-2
 returns-2 c =
-    let f = c .before .before in
+    let t = c .before .before in
+    let f = t .before in
     let absent = le-ltb _ _ (rw (c .before .word .ensures) at (c .if2 .taken)) in
-    let e = log-absent (sort f) (lent f) (asker f) (sound f) absent in
+    let e = log-absent (sort f) (lent f) (asker f) (sound t) absent in
     (sym e, sym (no-length (sort f) (lent f) (asker f) 3 e (λ z. omega arith)))
 
 logged-requires : tie.Need-logged-requires
@@ -52,10 +56,11 @@ logged-requires c κs = search needs
 
 returns-3 : tie.Need-returns-3
 returns-3 c =
-    let t = c .before in
-    let f = t .before .before in
-    let there = lt-ltb _ _ (rw (t .before .word .ensures) at (t .if2 .left)) in
-    let e = log-there (sort f) (lent f) (asker f) (sound f) there in
+    let p = c .before in
+    let t = p .before .before in
+    let f = t .before in
+    let there = lt-ltb _ _ (rw (p .before .word .ensures) at (p .if2 .left)) in
+    let e = log-there (sort f) (lent f) (asker f) (sound t) there in
     (sym e, c .logged .ensures ∙ sym (whole-length (sort f) (lent f) (asker f) e))
 
 pub log-length-in-spec : {M : Type 1} → statement M

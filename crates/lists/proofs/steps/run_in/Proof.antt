@@ -1,6 +1,6 @@
 -- run_in: at every turn the answer of the whole list is the answer from here on. A step that is accepted moves four
--- words from what is left to what is done (`run-more`), one that is refused ends both (`run-stop`), and so does an empty
--- rest (`run-end`). What falls is the words that are left.
+-- words from what is left to what is done (`run-more`), one that is refused ends both (`run-stop`), and so does an
+-- empty rest (`run-end`). What falls is the words that are left.
 use Prim.Native.Nat.{ℕ, _-_, _%_, _≤_}
 use mathlib.Core.Path.{_≡_, refl, sym, _∙_}
 use mathlib.Core.Bool.{Bool, true}
@@ -30,15 +30,23 @@ Inv-loop bank₀ room steps i₀ accepted₀ bank i accepted = Turn room bank₀
 abbrev μ-loop : tie.MeasureT-loop
 μ-loop bank₀ room steps i₀ accepted₀ bank i accepted = length steps - i
 
--- where a step has answered: the turn's beginning, and the function's
+-- where the bank is fit: the function's beginning
+abbrev begun : tie.Else1 Inv-loop μ-loop → tie.Start Inv-loop μ-loop
+begun c = c .before .before .before .before .before
+
+-- where a step has answered, seen from where its bank is given back
+abbrev answered : tie.After-slice-known2 Inv-loop μ-loop → tie.After-step-in Inv-loop μ-loop
+answered c = c .before .before
+
+-- and from there: the turn's beginning, and the function's
 abbrev turn : tie.After-slice-known2 Inv-loop μ-loop → tie.At-loop Inv-loop μ-loop
-turn c = c .before .before .before .before .before .before .before .before .before
+turn c = answered c .before .before .before .before .before .before .before
 
 abbrev start : tie.After-slice-known2 Inv-loop μ-loop → tie.Start Inv-loop μ-loop
-start c = turn c .before .before .before .before .before .before .before
+start c = begun (turn c .before .before)
 
--- the bank was found fit, and the list whole
-sound : (c : tie.Else1 Inv-loop μ-loop) → let s = c .before .before .before .before .before .args in
+-- the bank was found fit
+sound : (c : tie.Else1 Inv-loop μ-loop) → let s = begun c .args in
     fit (layout (s .room)) (s .bank .now) ≡ true
 sound c = sym (c .before .fit-in .ensures) ∙ not-false _ (c .if1 .left)
 
@@ -109,7 +117,7 @@ same-length-3 c = omega arith
 returns-3 : tie.Need-returns-3 Inv-loop μ-loop
 returns-3 c =
     let l = turn (c .before) .loop in
-    let t = c .before .before .before .step-in in
+    let t = answered (c .before) .step-in in
     let s = start (c .before) .args in
     run-stop (layout (s .room)) (l .accepted) (l .bank) (s .steps .now) (l .i) (t .result) (t .last .0) (omega arith)
     (t .ensures)
@@ -128,7 +136,7 @@ loop-less c = omega arith
 loop-again : tie.Need-loop-again Inv-loop μ-loop
 loop-again c =
     let l = turn (c .before) .loop in
-    let t = c .before .before .before .step-in in
+    let t = answered (c .before) .step-in in
     let s = start (c .before) .args in
     record {
       inside = omega arith;
@@ -136,7 +144,8 @@ loop-again c =
       counted = omega arith;
       as-long = t .kept .0 ∙ l .inv .as-long;
       rest = l .inv .rest
-          ∙ run-more (layout (s .room)) (l .accepted) (l .bank) (s .steps .now) (l .i) (t .result) (t .last .0) (omega arith)
+          ∙ run-more (layout (s .room)) (l .accepted) (l .bank) (s .steps .now) (l .i) (t .result) (t .last .0)
+          (omega arith)
           (t .ensures)
           (c .if3 .left);
     }

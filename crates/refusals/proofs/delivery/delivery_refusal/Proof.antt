@@ -14,6 +14,10 @@ use Rattle.refusals.proofs.delivery.delivery_refusal.Tie as tie
 abbrev start : tie.After-moves → tie.Start
 start c = c .before .before .before .before .before .before .before .before
 
+-- where who may deliver was asked: where moves had answered
+abbrev moves-asked : tie.After-may-deliver → tie.After-moves
+moves-asked c = c .before .before
+
 -- where both numbers were tested, and where N and the message count were read
 abbrev tests : tie.After-moves → tie.Else2
 tests c = c .before .before .before
@@ -58,7 +62,7 @@ may-deliver-requires : tie.Need-may-deliver-requires
 may-deliver-requires c κs = search needs
 
 returns-4 : tie.Need-returns-4
-returns-4 c = let e = moved (c .before .before .before) in search (parted, tested)
+returns-4 c = let e = moved (moves-asked (c .before)) in search (parted, tested)
 
 delivered-requires : tie.Need-delivered-requires
 delivered-requires c κs = search needs
@@ -74,10 +78,11 @@ returns-5 c =
     let l = c .before in
     let t = l .before .before in
     let heard = t .before in
-    let m = heard .before .before in
+    let m = moves-asked heard in
     let a = start m .args in
     let w = words (layout (a .room)) (a .bank .now) in
-    let d = rw (l .logged .ensures, l .before .delivered .ensures, counted m .word .ensures) at (c .undelivered .ensures) in
+    let d =
+    rw (l .logged .ensures, l .before .delivered .ensures, counted m .word .ensures) at (c .undelivered .ensures) in
     passed (isController w (a .i)) _ _ _ (read-below _ _ (numbered m .word2 .ensures) _ (tests m .before .if1 .left))
     (passed (isMessage w (a .m)) _ _ _ (read-below _ _ (counted m .word .ensures) _ (tests m .if2 .left))
     (moves-allows _ _ _ _ _ _ _ (heard .before .if3 .left) (moved m)

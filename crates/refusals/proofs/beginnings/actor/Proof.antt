@@ -1,8 +1,8 @@
 -- actor: it makes the tests of the same name in their order, and the first that fails decides.
 use Rattle.refusals.proofs.Deciding.{tested}
 use borrow.Author.Needs.{needs}
-use Rattle.refusals.proofs.kinds.actor.Statement.{statement}
-use Rattle.refusals.proofs.kinds.actor.Tie as tie
+use Rattle.refusals.proofs.beginnings.actor.Statement.{statement}
+use Rattle.refusals.proofs.beginnings.actor.Tie as tie
 
 word-requires : tie.Need-word-requires
 word-requires c κs = search needs

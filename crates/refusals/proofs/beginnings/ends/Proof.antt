@@ -1,8 +1,8 @@
 -- ends: it makes the tests of the same name in their order, and the first that fails decides.
 use Rattle.refusals.proofs.Deciding.{tested}
 use borrow.Author.Needs.{needs}
-use Rattle.refusals.proofs.kinds.ends.Statement.{statement}
-use Rattle.refusals.proofs.kinds.ends.Tie as tie
+use Rattle.refusals.proofs.beginnings.ends.Statement.{statement}
+use Rattle.refusals.proofs.beginnings.ends.Tie as tie
 
 word-requires : tie.Need-word-requires
 word-requires c κs = search needs

@@ -1,8 +1,8 @@
 -- moves: who is up is tested before who is in the set.
 use borrow.Author.Needs.{needs}
 use Rattle.refusals.proofs.Deciding.{tested}
-use Rattle.refusals.proofs.kinds.moves.Statement.{statement}
-use Rattle.refusals.proofs.kinds.moves.Tie as tie
+use Rattle.refusals.proofs.beginnings.moves.Statement.{statement}
+use Rattle.refusals.proofs.beginnings.moves.Tie as tie
 
 has-requires : tie.Need-has-requires
 has-requires c κs = search needs
