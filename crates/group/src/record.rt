@@ -83,7 +83,7 @@ pub(crate) fn lose(record: &mut [u16], room: Room, from: u16, to: u16)
 
 // Controller i has delivered the message.
 pub(crate) fn deliver(record: &mut [u16], room: Room, i: u16)
-    requires { ⌜ (length (now «record») ≡ recordSize (layout room)) × (i < 16) ⌝ }
+    requires { ⌜ (length (now «record») ≡ recordSize (layout room)) × (i < layout room .controllers) ⌝ }
     ensures { λ _. ⌜ now («record» .exit) ≡ changed (layout room) (marked i) (now («record» .entry)) ⌝ }
 {
     record[Bank::DELIVERED] = sets::join(record[Bank::DELIVERED], i);

@@ -1,4 +1,4 @@
--- The delivery test of sets: the group's four laws of it (its proofs/DeliveryTest), and what the rest rests on.
+-- The delivery test of sets: the four laws of it (refusals, proofs/DeliveryTest), and what the rest rests on.
 use mathlib.Core.Path.{_≡_, sym, _∙_}
 use mathlib.Core.Bool.{Bool, true}
 use mathlib.Core.Logic.{inl, inr}

@@ -17,7 +17,7 @@ pub mod OneEnd  -- where steps change places, all finished runs are equally long
 -- ---- on sets: one end, agreement, validity
 pub mod Sets  -- a group as sets, what each step makes of them and what allows it
 pub mod Gathered  -- the word that gathers a set
-pub mod Enough  -- the delivery test of sets, by the group's four laws of it
+pub mod Enough  -- the delivery test of sets, by the four laws of it in refusals
 pub mod Cells  -- one member changes and the others stay
 pub mod Copies  -- the five places of a copy
 pub mod Keep  -- what every step keeps

@@ -1,5 +1,5 @@
-// The tests that several kinds begin with. Reads the header alone, writes nothing; what is said of the header is said of
-// the paper's layout, since it stands alike in every one.
+// The tests that several kinds begin with. Reads the header alone, writes nothing. The header stands alike in every
+// layout: what is said of it is said of the paper's.
 ghost use mathlib.Core.Path.{_≡_};
 ghost use mathlib.Core.List.{[], _∷_};
 ghost use Rattle.sets.specs.Set.{has};

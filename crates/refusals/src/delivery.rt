@@ -16,7 +16,7 @@ use numbers::Mode;
 use numbers::Refusal;
 
 // The delivery test of a mode, among n controllers: whom one of them takes to be up, and from whom it has the message.
-pub fn enough(mode: u16, n: u16, trusted: u16, received: u16) -> bool
+fn enough(mode: u16, n: u16, trusted: u16, received: u16) -> bool
     ensures { λ r. ⌜ r ≡ Delivery.enough mode n trusted received ⌝ }
 {
     if mode == Mode::ALL_ACK {

@@ -8,4 +8,3 @@ mod kinds;
 pub use asking::refusal;
 pub use asking::refusal_in;
 pub use delivery::delivery_refusal;
-pub use delivery::enough;

@@ -1,5 +1,5 @@
 -- The promise of a log's copy leaves no room: two lengths and buffers that it allows for the same input are equal. For
--- the other three calls the group's own laws say so, since their promises are the group's.
+-- the other three calls the laws of `lists` and `refusals` say so, since their promises are those crates' own.
 use Prim.Native.Nat.{ℕ}
 use mathlib.Core.Path.{_≡_, sym, _∙_}
 use mathlib.Core.List.{List}

@@ -1,2 +1,2 @@
--- What is not in the group: a log, copied.
+-- What is not in `lists`: a log, copied.
 pub mod LogCopy

@@ -1,4 +1,5 @@
--- copy: after i turns the words from i on are left to copy.
+-- copy: after i turns the words from i on are left to copy. A turn copies word i, and past the end of either there is
+-- nothing to copy or nowhere to. What falls is the words of `from` left.
 use Prim.Native.Nat.{_-_}
 use lib.ListN.{length}
 use Rattle.word_face.proofs.Copying.{Going, begun, one-more, all-copied, all-full}

@@ -1,5 +1,8 @@
 -- deliver: one word, who has delivered the message.
+use Prim.Native.Nat.{_<_}
+use native.Mathlib.Omega.{arith}
 use Rattle.sets.proofs.Members.{join-with}
+use Rattle.bank.proofs.Rooms.{few}
 use borrow.Author.Needs.{needs}
 use Rattle.group.proofs.record.deliver.Statement.{statement}
 use Rattle.group.proofs.record.deliver.Tie as tie
@@ -21,7 +24,10 @@ same-length : tie.Need-same-length
 same-length c = search needs
 
 returns : tie.Need-returns
-returns c = rw (c .join .ensures, join-with _ _ (start c .pre .1))
+returns c =
+    let s = start c in
+    let h : s .args .i < 16 = omega (arith, s .pre .1, few (s .args .room)) in
+    rw (c .join .ensures, join-with _ _ h)
 
 pub deliver-spec : {M : Type 1} → statement M
 deliver-spec =

@@ -10,7 +10,7 @@ use lib.ListN.{length, getD, set, length-set}
 use Rattle.bank.specs.Place.{recordOf, logLength, log}
 use Rattle.bank.specs.Layout.{Layout, layout, address, words, puts, inRecord}
 use Rattle.bank.proofs.Places.{inside}
-use Rattle.bank.proofs.Rooms.{few, short}
+use Rattle.bank.proofs.Rooms.{short}
 use Rattle.bank.proofs.Lending.{Lends, lends, lent-inside, lent-length, lent-whole}
 use Rattle.group.specs.Writes.{marked}
 use Rattle.refusals.proofs.Granted.{Delivers, deliver-granted}
@@ -126,7 +126,7 @@ part-deliver-end c = lent-inside (lending c)
 deliver-requires : tie.Need-deliver-requires
 deliver-requires c κs =
     let s = start (c .before) in
-    (lent-length (lending (c .before)), omega (arith, here s .there, few (s .args .room)))
+    (lent-length (lending (c .before)), here s .there)
 
 mul-bank : tie.Need-mul-bank
 mul-bank c = let h = entry-in (lent c) in omega arith

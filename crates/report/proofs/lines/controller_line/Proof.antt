@@ -1,4 +1,4 @@
--- controller_line: its pieces one after another are the line; the log is the one that the group hands back.
+-- controller_line: its pieces one after another are the line; the log is the one that `lists` hands back.
 use native.Mathlib.Omega.{arith}
 use mathlib.Core.Path.{_∙_, ap}
 use Rattle.sets.specs.Set.{has}
