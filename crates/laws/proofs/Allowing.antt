@@ -13,8 +13,9 @@ use Rattle.bank.specs.Fit.{Fit}
 use Rattle.refusals.specs.Step.{Step, broadcast, send, receive, deliver, crash, detect, lose}
 use Rattle.refusals.specs.Delivery.{enough}
 use Rattle.refusals.specs.Promises.{Allowed}
-use Rattle.refusals.proofs.Granted.{Ends, broadcast-granted, send-granted, receive-granted, deliver-granted, crash-granted}
-use Rattle.refusals.proofs.Granted.{detect-granted, lose-granted, send-holds, receive-holds, deliver-holds, detect-holds}
+use Rattle.refusals.proofs.Granted.{Ends, broadcast-granted, send-granted, receive-granted, deliver-granted}
+use Rattle.refusals.proofs.Granted.{crash-granted, detect-granted, lose-granted}
+use Rattle.refusals.proofs.Granted.{send-holds, receive-holds, deliver-holds, detect-holds}
 use Rattle.refusals.proofs.Bounds.{EndsIn, controller-below, message-below, ends-below}
 use Rattle.laws.proofs.Onward.{SettlingKind, sends, receives, delivers, detects}
 use Rattle.laws.proofs.Sets.{enoughOf, Named, Ok}

@@ -45,7 +45,8 @@ no-rows {w} {f} {n} {out} {at} = record { few = omega arith; printed = rw mul-ze
 
 module _ {w : ℕ} {f : ℕ → List ℕ} {n k : ℕ} {out : List ℕ} {at r : ℕ} {out′ : List ℕ}
     (p : Rows w f n k out at r out′) where
-  pub one-more-row : {r′ : ℕ} {out″ : List ℕ} → k < n → Prints w out′ r (f k) r′ out″ → Rows w f n (k + 1) out at r′ out″
+  pub one-more-row : {r′ : ℕ} {out″ : List ℕ} → k < n → Prints w out′ r (f k) r′ out″
+      → Rows w f n (k + 1) out at r′ out″
   one-more-row h q = record { few = omega arith; printed = once-more k (p .printed) q (one-more-line f k) }
 
   pub all-rows : {most : ℕ} → n ≤ k → w * k ≤ most → Prints most out at (lines f (upFrom 0 n)) r out′

@@ -67,7 +67,8 @@ same-length c = as-long-as (c .before .loop .inv .printed)
 
 returns : tie.Need-returns Inv-loop μ-loop
 returns c =
-    as-text (bounded (c .before .loop .inv .printed) (omega arith)) (ap Lines.entries (take-all _ _ (c .loop-test .left)))
+    let printed = c .before .loop .inv .printed in
+    as-text (bounded printed (omega arith)) (ap Lines.entries (take-all _ _ (c .loop-test .left)))
 
 pub entries-spec : {M : Type 1} → statement M
 entries-spec =

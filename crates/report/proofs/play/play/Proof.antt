@@ -1,6 +1,6 @@
 -- play: at every turn the state of the whole file is the state from this place on. A record that is applied moves what
--- is left to the place after it (`plays-on`); one that is refused (`plays-refused`), a bad one (`plays-bad`) and the end
--- (`plays-end`) are the last that is looked at. What falls is the bytes left.
+-- is left to the place after it (`plays-on`); one that is refused (`plays-refused`), a bad one (`plays-bad`) and the
+-- end (`plays-end`) are the last that is looked at. What falls is the bytes left.
 use Prim.Native.Nat.{ℕ, _*_, _-_, _≤_}
 use mathlib.Core.Path.{_≡_, refl, sym, ap, _∙_}
 use mathlib.Core.List.{List}
