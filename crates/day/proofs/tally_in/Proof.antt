@@ -1,6 +1,6 @@
 -- tally_in: the answer is at every turn the one from the tally so far over the entries that are left. An entry that is
--- a given message moves from what is left to the tally, one that is not ends both with 1, and past the last the tally is
--- the answer. What falls is the entries left.
+-- a given message moves from what is left to the tally, one that is not ends both with 1, and past the last the tally
+-- is the answer. What falls is the entries left.
 use Prim.Native.Nat.{ℕ, _-_, _≤_, _<_}
 use mathlib.Core.Path.{_≡_, sym, ap₂, _∙_}
 use mathlib.Core.List.{List}

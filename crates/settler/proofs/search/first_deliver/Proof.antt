@@ -54,7 +54,7 @@ n-read c = c .before .before .before .before .word .ensures
 waiting : (c : tie.At-loop Inv-loop μ-loop) → let w = words (sort c) (lent c) in let m = start c .args .m in
     c .before .less .result ≡ less (w (message m held)) (w (message m delivered))
 waiting c =
-    c .before .less .ensures ∙ ap₂ less (c .before .before .before .held .ensures) (c .before .before .delivered .ensures)
+    let d = c .before .before in c .before .less .ensures ∙ ap₂ less (d .before .held .ensures) (d .delivered .ensures)
 
 there : (c : tie.In-loop Inv-loop μ-loop) → c .before .loop .i < words (sort (c .before)) (lent (c .before)) N
 there c = rw (n-read (c .before)) at (c .loop-test .taken)
