@@ -1,4 +1,5 @@
--- What an allowed step's rules grant, each fact by its name: the order of a list of rules is known here alone.
+-- What an allowed step's rules grant, each fact by its name: the order of a list of rules is known here, and besides
+-- only that a delivery's last rule is the seventh (laws, proofs/Unrefused).
 use mathlib.Core.Path.{_≡_}
 use mathlib.Core.Bool.{true, not, _&&_}
 use Prim.Native.Nat.{ℕ}
