@@ -1,5 +1,7 @@
 // The paper's chapter "The bank": where each word of a lent run of words stands, what makes a bank unfit, and opening.
 // `open` and `fit` are the full bank's; what takes a `room` is for both sizes, and whatever else is alike in both.
+#![tactic(auto)]
+
 mod layout;
 mod opening;
 mod unfit;

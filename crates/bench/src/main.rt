@@ -1,4 +1,6 @@
 // The bench: a file on standard input, its report on standard output. What the report says, report::bench promises.
+#![tactic(auto)]
+
 use libc::{STDIN_FILENO, STDOUT_FILENO};
 
 fn main() {

@@ -1,4 +1,6 @@
 // The bench's file: where a record stands in its bytes, what it carries and what makes it bad. Reads bytes alone.
+#![tactic(auto)]
+
 ghost use Rattle.std.specs.Prelude.{◌≡◌, ◌+◌, ◌≤◌, ◌<◌, length, get_or};
 ghost use Rattle.file.specs.Records.{record_length, number_at, well_cut};
 ghost use Rattle.file.specs.Promises.{WordPromise, FindPromise, BegunPromise};

@@ -1,6 +1,8 @@
 // The group's seven steps: what each writes, and one step, over a bank that the caller lends. Nothing is kept between
 // calls. Everything is for both sizes of bank; the calls without `room` are the full bank's. What is right stands in
 // specs/, what each call promises in specs/Promises.antt.
+#![tactic(auto)]
+
 mod one_step;
 mod record;
 mod steps;

@@ -1,5 +1,7 @@
 // What is asked of a group beside one step: a list of steps, and a log. Everything is for both sizes of bank; the calls
 // without `room` are the full bank's.
+#![tactic(auto)]
+
 mod logs;
 mod steps;
 

@@ -1,6 +1,8 @@
 // The C face of the station's scheduler: opening, one step, the settler and the tally, on numbers and a byte slice that
 // stands for the bank. Each call takes the bytes apart and asks the crate below; the bytes are written where nothing is
 // refused. include/loargwen.h is what a C program sees.
+#![tactic(auto)]
+
 mod bytes;
 
 ghost use Rattle.std.specs.Prelude.{◌≡◌, ◌*◌};

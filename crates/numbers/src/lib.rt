@@ -1,4 +1,5 @@
 // The paper's numbers by name: the kinds of step, the modes, and what is given back. No function, no bank.
+#![tactic(auto)]
 
 // The seven kinds of step.
 #[derive(Drop)]

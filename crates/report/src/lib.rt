@@ -1,4 +1,6 @@
 // What the bench prints, and the bench as one function from the bytes of a file to the bytes of its report.
+#![tactic(auto)]
+
 mod lines;
 mod play;
 mod text;

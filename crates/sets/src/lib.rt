@@ -1,4 +1,6 @@
 // A u16 as a set of controllers. Every function takes all inputs; what each computes is in specs/Set.antt.
+#![tactic(auto)]
+
 ghost use Rattle.std.specs.Prelude.{◌≡◌, min};
 ghost use Rattle.sets.specs.Set;
 

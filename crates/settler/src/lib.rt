@@ -1,5 +1,7 @@
 // The settler takes the first allowed step again and again. It changes the bank through the group's single steps alone.
 // It works on both sizes of bank; `settle` is the full bank's.
+#![tactic(auto)]
+
 mod search;
 
 ghost use Rattle.bank.specs.Layout.{paper, layout};

@@ -1,4 +1,6 @@
 // A Rattle caller's own list of step records, walked by one thin function over the group's single step.
+#![tactic(auto)]
+
 ghost use Rattle.step_records.specs.Records.{StepsPromise};
 
 use lists::Ran;

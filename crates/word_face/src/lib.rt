@@ -1,5 +1,7 @@
 // The calls that the C face has not, on words, for the tests: lists, what refuses a step, and the two questions about
 // a log. Each is thin over a call of `lists` or `refusals`. No part of the product: nothing installs its archive.
+#![tactic(auto)]
+
 ghost use Rattle.bank.specs.Layout.{paper};
 ghost use Rattle.refusals.specs.Step.{ask};
 ghost use Rattle.refusals.specs.Promises.{RefusalPromise};

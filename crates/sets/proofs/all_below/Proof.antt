@@ -9,19 +9,19 @@ use Rattle.sets.proofs.Words.{shl_one}
 use Rattle.sets.proofs.all_below.Statement.{statement}
 use Rattle.sets.proofs.all_below.Tie as tie
 
-shl-result : tie.Need-overflow-shl-result
-shl-result c = search rules
+overflow_shl-result : tie.Need-overflow_shl-result
+overflow_shl-result c = search rules
 
-sub-result : tie.Need-overflow-sub-result
-sub-result c = rw (shl_one _ c.if1.true) (pow_pos _)
+overflow_sub-result : tie.Need-overflow_sub-result
+overflow_sub-result c = rw (shl_one _ c.if-n-lt16.true) (pow_pos _)
 
-returns : tie.Need-returns
+returns-then-n-lt16 : tie.Need-returns-then-n-lt16
 unfolding all_below
-returns c = let h : c.before.args.n ≤ 16 = omega arith in rw (shl_one _ c.if1.true, min-eq_left h)
+returns-then-n-lt16 c = let h : c.before.args.n ≤ 16 = omega arith in rw (shl_one _ c.if-n-lt16.true, min-eq_left h)
 
-returns-2 : tie.Need-returns-2
+returns-else-n-lt16 : tie.Need-returns-else-n-lt16
 unfolding all_below
-returns-2 c = rw (min-eq_right c.if1.false)
+returns-else-n-lt16 c = rw (min-eq_right c.if-n-lt16.false)
 
 pub all_below_spec : {M : Type 1} → statement M
-all_below_spec = tie.close (tie.spec shl-result sub-result returns returns-2)
+all_below_spec = tie.close (tie.spec overflow_shl-result overflow_sub-result returns-then-n-lt16 returns-else-n-lt16)

@@ -6,14 +6,14 @@ use Rattle.sets.proofs.Members.{join-outside}
 use Rattle.sets.proofs.bit.Statement.{statement}
 use Rattle.sets.proofs.bit.Tie as tie
 
-shl-result : tie.Need-overflow-shl-result
-shl-result c = search rules
+overflow_shl-result : tie.Need-overflow_shl-result
+overflow_shl-result c = search rules
 
-returns : tie.Need-returns
-returns c = shl_one _ c.if1.true ∙ sym (join_bit _ c.if1.true)
+returns-then-i-lt16 : tie.Need-returns-then-i-lt16
+returns-then-i-lt16 c = shl_one _ c.if-i-lt16.true ∙ sym (join_bit _ c.if-i-lt16.true)
 
-returns-2 : tie.Need-returns-2
-returns-2 c = sym (join-outside 0 _ c.if1.false)
+returns-else-i-lt16 : tie.Need-returns-else-i-lt16
+returns-else-i-lt16 c = sym (join-outside 0 _ c.if-i-lt16.false)
 
 pub bit_spec : {M : Type 1} → statement M
-bit_spec = tie.close (tie.spec shl-result returns returns-2)
+bit_spec = tie.close (tie.spec overflow_shl-result returns-then-i-lt16 returns-else-i-lt16)

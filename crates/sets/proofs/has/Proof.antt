@@ -6,15 +6,15 @@ use Rattle.sets.proofs.Members.{has-outside}
 use Rattle.sets.proofs.has.Statement.{statement}
 use Rattle.sets.proofs.has.Tie as tie
 
-shr-result : tie.Need-overflow-shr-result
-shr-result c = search rules
+overflow_shr-result : tie.Need-overflow_shr-result
+overflow_shr-result c = search rules
 
-returns : tie.Need-returns
+returns-then-i-lt16 : tie.Need-returns-then-i-lt16
 unfolding has
-returns c = refl
+returns-then-i-lt16 c = refl
 
-returns-2 : tie.Need-returns-2
-returns-2 c = sym (has-outside _ 16 _ (search rules) c.if1.false)
+returns-else-i-lt16 : tie.Need-returns-else-i-lt16
+returns-else-i-lt16 c = sym (has-outside _ 16 _ (search rules) c.if-i-lt16.false)
 
 pub has_spec : {M : Type 1} → statement M
-has_spec = tie.close (tie.spec shr-result returns returns-2)
+has_spec = tie.close (tie.spec overflow_shr-result returns-then-i-lt16 returns-else-i-lt16)

@@ -8,11 +8,11 @@ use Rattle.sets.proofs.without.Tie as tie
 bit-requires : tie.Need-bit-requires
 bit-requires c κs = search rules
 
-sub-result : tie.Need-overflow-sub-result
-sub-result c = and_le_l _ _
+overflow_sub-result : tie.Need-overflow_sub-result
+overflow_sub-result c = and_le_l _ _
 
 returns : tie.Need-returns
 returns c = rw c.bit.ensures (less-join _ _ (search rules))
 
 pub without_spec : {M : Type 1} → statement M
-without_spec = tie.close (tie.spec bit-requires sub-result returns)
+without_spec = tie.close (tie.spec bit-requires overflow_sub-result returns)
