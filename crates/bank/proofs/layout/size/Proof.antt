@@ -2,11 +2,11 @@
 use Rattle.bank.proofs.layout.size.Statement.{statement}
 use Rattle.bank.proofs.layout.size.Tie as tie
 
-returns : tie.Need-returns
-returns c = rw c.if1.true
+returns-then-room : tie.Need-returns-then-room
+returns-then-room c = rw c.if-room.true
 
-returns-2 : tie.Need-returns-2
-returns-2 c = rw c.if1.false
+returns-else-room : tie.Need-returns-else-room
+returns-else-room c = rw c.if-room.false
 
 pub size_spec : {M : Type 1} → statement M
-size_spec = tie.close (tie.spec returns returns-2)
+size_spec = tie.close (tie.spec returns-then-room returns-else-room)

@@ -3,17 +3,17 @@ use borrow.Author.Rules.{rules}
 use Rattle.bank.proofs.layout.unsent_at.Statement.{statement}
 use Rattle.bank.proofs.layout.unsent_at.Tie as tie
 
-add-result : tie.Need-overflow-add-result
-add-result c = search rules
+overflow_add-result : tie.Need-overflow_add-result
+overflow_add-result c = search rules
 
-add-result-2 : tie.Need-overflow-add-result-2
-add-result-2 c = search rules
+overflow_add-result-else-room : tie.Need-overflow_add-result-else-room
+overflow_add-result-else-room c = search rules
 
-returns : tie.Need-returns
-returns c = rw c.if1.true
+returns-then-room : tie.Need-returns-then-room
+returns-then-room c = rw c.if-room.true
 
-returns-2 : tie.Need-returns-2
-returns-2 c = rw c.if1.false
+returns-else-room : tie.Need-returns-else-room
+returns-else-room c = rw c.if-room.false
 
 pub unsent_at_spec : {M : Type 1} → statement M
-unsent_at_spec = tie.close (tie.spec add-result add-result-2 returns returns-2)
+unsent_at_spec = tie.close (tie.spec overflow_add-result overflow_add-result-else-room returns-then-room returns-else-room)

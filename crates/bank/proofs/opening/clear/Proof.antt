@@ -14,42 +14,42 @@ record Turn (words₀ words : List ℕ) (k : ℕ) : Type 0 where
   as_long : length words ≡ length words₀
   so_far : words ≡ replicate k 0 ++ drop k words₀
 
-abbrev invariant-loop : tie.invariant-loop
-invariant-loop words₀ k₀ words k = Turn words₀ words k
+abbrev invariant-loop-k : tie.invariant-loop-k
+invariant-loop-k words₀ k₀ words k = Turn words₀ words k
 
-abbrev decreases-loop : tie.decreases-loop
-decreases-loop words₀ k₀ words k = length words₀ - k
+abbrev decreases-loop-k : tie.decreases-loop-k
+decreases-loop-k words₀ k₀ words k = length words₀ - k
 
-loop-holds : tie.Need-loop-init invariant-loop decreases-loop
-loop-holds c = record { inside = omega arith; as_long = refl; so_far = refl }
+loop-k-init : tie.Need-loop-k-init invariant-loop-k decreases-loop-k
+loop-k-init c = record { inside = omega arith; as_long = refl; so_far = refl }
 
-mul_words : tie.Need-overflow-mul-words invariant-loop decreases-loop
-mul_words c = omega arith
+offset_bounds-words-k : tie.Need-offset_bounds-words-k invariant-loop-k decreases-loop-k
+offset_bounds-words-k c = omega arith
 
-slice-write-words : tie.Need-slice-write-words invariant-loop decreases-loop
-slice-write-words c = omega arith
+bounds-words-k : tie.Need-bounds-words-k invariant-loop-k decreases-loop-k
+bounds-words-k c = omega arith
 
-add-k : tie.Need-overflow-add-k invariant-loop decreases-loop
-add-k c = omega arith
+overflow_add-k : tie.Need-overflow_add-k invariant-loop-k decreases-loop-k
+overflow_add-k c = omega arith
 
-loop-less : tie.Need-loop-smaller invariant-loop decreases-loop
-loop-less c = omega arith
+loop-k-smaller : tie.Need-loop-k-smaller invariant-loop-k decreases-loop-k
+loop-k-smaller c = omega arith
 
-loop-again : tie.Need-loop-preserved invariant-loop decreases-loop
-loop-again c =
-    let l = c.before.loop in
+loop-k-preserved : tie.Need-loop-k-preserved invariant-loop-k decreases-loop-k
+loop-k-preserved c =
+    let l = c.before.loop-k in
     record {
       inside = omega arith;
       as_long = simp length-set l.invariant.as_long;
       so_far = rw l.invariant.so_far (fill_more l.k 0 _ (omega arith));
     }
 
-same_length : tie.Need-same-length invariant-loop decreases-loop
-same_length c = c.before.loop.invariant.as_long
+shape_of-words : tie.Need-shape_of-words invariant-loop-k decreases-loop-k
+shape_of-words c = c.before.loop-k.invariant.as_long
 
-returns : tie.Need-returns invariant-loop decreases-loop
+returns : tie.Need-returns invariant-loop-k decreases-loop-k
 returns c =
-    let l = c.before.loop in
+    let l = c.before.loop-k in
     let w = c.before.before.args.words.now in
     let all : l.k ≡ length w = omega (arith, l.invariant.inside, l.invariant.as_long) in
     let none : length w ≤ length w = omega arith in
@@ -59,13 +59,13 @@ pub clear_spec : {M : Type 1} → statement M
 clear_spec =
     tie.close
     (tie.spec
-    invariant-loop
-    decreases-loop
-    loop-holds
-    mul_words
-    slice-write-words
-    add-k
-    loop-less
-    loop-again
-    same_length
+    invariant-loop-k
+    decreases-loop-k
+    loop-k-init
+    offset_bounds-words-k
+    bounds-words-k
+    overflow_add-k
+    loop-k-smaller
+    loop-k-preserved
+    shape_of-words
     returns)

@@ -23,90 +23,90 @@ record Turn (room : Bool) (bank₀ bank : List ℕ) (n i : ℕ) : Type 0 where
   as_long : length bank ≡ length bank₀
   rest : puts (address (layout room)) bank₀ (views n 0 n) ≡ puts (address (layout room)) bank (views n i (n - i))
 
-abbrev invariant-loop : tie.invariant-loop
-invariant-loop bank₀ room n all i₀ bank i = Turn room bank₀ bank n i
+abbrev invariant-loop-i : tie.invariant-loop-i
+invariant-loop-i bank₀ room n all i₀ bank i = Turn room bank₀ bank n i
 
-abbrev decreases-loop : tie.decreases-loop
-decreases-loop bank₀ room n all i₀ bank i = n - i
+abbrev decreases-loop-i : tie.decreases-loop-i
+decreases-loop-i bank₀ room n all i₀ bank i = n - i
 
-all-below-requires : tie.Need-all-below-requires invariant-loop decreases-loop
-all-below-requires c κs = search rules
+all_below-all-requires : tie.Need-all_below-all-requires invariant-loop-i decreases-loop-i
+all_below-all-requires c κs = search rules
 
-loop-holds : tie.Need-loop-init invariant-loop decreases-loop
-loop-holds c = record { inside = omega arith; as_long = refl; rest = rw sub-zero }
+loop-i-init : tie.Need-loop-i-init invariant-loop-i decreases-loop-i
+loop-i-init c = record { inside = omega arith; as_long = refl; rest = rw sub-zero }
 
-view-at-requires : tie.Need-view-at-requires invariant-loop decreases-loop
-view-at-requires c κs = search rules
+view_at-requires : tie.Need-view_at-requires invariant-loop-i decreases-loop-i
+view_at-requires c κs = search rules
 
 -- where a view is written: the turn's beginning, and the function's
-abbrev turn : tie.After-view-at invariant-loop decreases-loop → tie.At-loop invariant-loop decreases-loop
+abbrev turn : tie.After-view_at invariant-loop-i decreases-loop-i → tie.At-loop-i invariant-loop-i decreases-loop-i
 turn c = c.before.before
 
-abbrev start : tie.After-view-at invariant-loop decreases-loop → tie.Start invariant-loop decreases-loop
+abbrev start : tie.After-view_at invariant-loop-i decreases-loop-i → tie.Start invariant-loop-i decreases-loop-i
 start c = (turn c).before.before.before
 
-here : (c : tie.After-view-at invariant-loop decreases-loop) → c.view-at.result < length (turn c).loop.bank
+here : (c : tie.After-view_at invariant-loop-i decreases-loop-i) → c.view_at.result < length (turn c).loop-i.bank
 here c =
-    let l = (turn c).loop in
+    let l = (turn c).loop-i in
     omega (
       arith,
-      c.view-at.ensures,
-      l.inv.as_long,
-      inside (layout (start c).args.room) (view l.i) (omega (arith, c.before.loop-test.true, (start c).requires.1)),
+      c.view_at.ensures,
+      l.invariant.as_long,
+      inside (layout (start c).args.room) (view l.i) (omega (arith, c.before.loop-i-test.true, (start c).requires.1)),
       (start c).requires.0,
     )
 
-mul-bank : tie.Need-overflow-mul-bank invariant-loop decreases-loop
-mul-bank c = let h = here c in omega arith
+offset_bounds-bank-view_at : tie.Need-offset_bounds-bank-view_at invariant-loop-i decreases-loop-i
+offset_bounds-bank-view_at c = let h = here c in omega arith
 
-slice-write-bank : tie.Need-slice-write-bank invariant-loop decreases-loop
-slice-write-bank c = here c
+bounds-bank-view_at : tie.Need-bounds-bank-view_at invariant-loop-i decreases-loop-i
+bounds-bank-view_at c = here c
 
-add-i : tie.Need-overflow-add-i invariant-loop decreases-loop
-add-i c = omega arith
+overflow_add-i : tie.Need-overflow_add-i invariant-loop-i decreases-loop-i
+overflow_add-i c = omega arith
 
-loop-less : tie.Need-loop-smaller invariant-loop decreases-loop
-loop-less c = omega arith
+loop-i-smaller : tie.Need-loop-i-smaller invariant-loop-i decreases-loop-i
+loop-i-smaller c = omega arith
 
-loop-again : tie.Need-loop-preserved invariant-loop decreases-loop
-loop-again c =
-    let l = (turn c).loop in
+loop-i-preserved : tie.Need-loop-i-preserved invariant-loop-i decreases-loop-i
+loop-i-preserved c =
+    let l = (turn c).loop-i in
     let begun = (turn c).before in
-    let all : begun.all-below.result ≡ all_below (start c).args.n =
-    begun.all-below.ensures ∙ ap all_below (omega (arith, few (start c).args.room)) in
-    let next = views-more (start c).args.n l.i c.before.loop-test.true in
+    let all : begun.all_below-all.result ≡ all_below (start c).args.n =
+    begun.all_below-all.ensures ∙ ap all_below (omega (arith, few (start c).args.room)) in
+    let next = views-more (start c).args.n l.i c.before.loop-i-test.true in
     let by : List ℕ → List (Write Place) → List ℕ = puts (address (layout (start c).args.room)) in
     let n : ℕ = (start c).args.n in
     let more : List (Write Place) = views n (l.i + 1) (n - (l.i + 1)) in
     record {
       inside = omega arith;
-      as_long = simp length-set l.inv.as_long;
-      rest = l.inv.rest
+      as_long = simp length-set l.invariant.as_long;
+      rest = l.invariant.rest
           ∙ ap (by l.bank) next
-          ∙ ap₂ (λ (a v : ℕ). by (set l.bank a v) more) (sym c.view-at.ensures) (sym all);
+          ∙ ap₂ (λ (a v : ℕ). by (set l.bank a v) more) (sym c.view_at.ensures) (sym all);
     }
 
-same_length : tie.Need-same-length invariant-loop decreases-loop
-same_length c = c.before.loop.invariant.as_long
+shape_of-bank : tie.Need-shape_of-bank invariant-loop-i decreases-loop-i
+shape_of-bank c = c.before.loop-i.invariant.as_long
 
-returns : tie.Need-returns invariant-loop decreases-loop
+returns : tie.Need-returns invariant-loop-i decreases-loop-i
 returns c =
-    let l = c.before.loop in
-    ap (puts _ l.bank) (sym (views-none _ _ c.loop-test.false)) ∙ sym l.invariant.rest
+    let l = c.before.loop-i in
+    ap (puts _ l.bank) (sym (views-none _ _ c.loop-i-test.false)) ∙ sym l.invariant.rest
 
 pub open_views_spec : {M : Type 1} → statement M
 open_views_spec =
     tie.close
     (tie.spec
-    invariant-loop
-    decreases-loop
-    all-below-requires
-    loop-holds
-    view-at-requires
-    mul-bank
-    slice-write-bank
-    add-i
-    loop-less
-    loop-again
-    same_length
+    invariant-loop-i
+    decreases-loop-i
+    all_below-all-requires
+    loop-i-init
+    view_at-requires
+    offset_bounds-bank-view_at
+    bounds-bank-view_at
+    overflow_add-i
+    loop-i-smaller
+    loop-i-preserved
+    shape_of-bank
     returns)

@@ -17,33 +17,33 @@ abbrev start : tie.After-clear → tie.Start
 start c = c.before.before.before
 
 -- where the set of all is made: where the bank was all zeros
-abbrev cleared : tie.After-all-below → tie.After-clear
+abbrev cleared : tie.After-all_below → tie.After-clear
 cleared c = c.before.before.before
 
 -- where the bank is given back, opened: where the set of all was made
-abbrev all_made : tie.After-slice-known3 → tie.After-all-below
+abbrev all_made : tie.After-slice_known-3-1 → tie.After-all_below
 all_made c = c.before.before.before.before
 
 clear-requires : tie.Need-clear-requires
 clear-requires c κs = search rules
 
-slice-write-bank : tie.Need-slice-write-bank
-slice-write-bank c = search rules
+bounds-bank-0 : tie.Need-bounds-bank-0
+bounds-bank-0 c = search rules
 
-slice-write-bank-2 : tie.Need-slice-write-bank-2
-slice-write-bank-2 c = simp length-set (omega arith)
+bounds-bank-1 : tie.Need-bounds-bank-1
+bounds-bank-1 c = simp length-set (omega arith)
 
-all-below-requires : tie.Need-all-below-requires
-all-below-requires c κs = search rules
+all_below-requires : tie.Need-all_below-requires
+all_below-requires c κs = search rules
 
-slice-write-bank-3 : tie.Need-slice-write-bank-3
-slice-write-bank-3 c = simp length-set (omega arith)
+bounds-bank-3 : tie.Need-bounds-bank-3
+bounds-bank-3 c = simp length-set (omega arith)
 
-open-views-requires : tie.Need-open-views-requires
-open-views-requires c κs = simp length-set (omega arith)
+open_views-requires : tie.Need-open_views-requires
+open_views-requires c κs = simp length-set (omega arith)
 
-same_length : tie.Need-same-length
-same_length c = c.before.before.open-views.auto.0 ∙ simp length-set (cleared (all_made c)).clear.auto.0
+shape_of-bank : tie.Need-shape_of-bank
+shape_of-bank c = c.before.before.open_views.auto.bank ∙ simp length-set (cleared (all_made c)).clear.auto.words
 
 returns : tie.Need-returns
 unfolding opened
@@ -52,11 +52,11 @@ returns c =
     let z = cleared up in
     let a = (start z).args in
     let whole : length a.bank.now ≡ size (layout a.room) = omega arith in
-    let all : up.all-below.result ≡ all_below a.n =
-    up.all-below.ensures ∙ ap all_below (omega (arith, few a.room)) in
-    let zeros : z.clear.last.0 ≡ replicate (size (layout a.room)) 0 =
+    let all : up.all_below.result ≡ all_below a.n =
+    up.all_below.ensures ∙ ap all_below (omega (arith, few a.room)) in
+    let zeros : z.clear.new.words ≡ replicate (size (layout a.room)) 0 =
     z.clear.ensures ∙ ap (λ k. replicate k 0) whole in
-    c.before.before.open-views.ensures
+    c.before.before.open_views.ensures
     ∙ rw all (ap (λ (b : List ℕ). puts (address (layout a.room)) b (opening a.n a.mode)) zeros)
 
 pub write_opening_spec : {M : Type 1} → statement M
@@ -64,10 +64,10 @@ write_opening_spec =
     tie.close
     (tie.spec
     clear-requires
-    slice-write-bank
-    slice-write-bank-2
-    all-below-requires
-    slice-write-bank-3
-    open-views-requires
-    same_length
+    bounds-bank-0
+    bounds-bank-1
+    all_below-requires
+    bounds-bank-3
+    open_views-requires
+    shape_of-bank
     returns)

@@ -5,14 +5,14 @@ use Rattle.bank.proofs.Rooms.{few}
 use Rattle.bank.proofs.words.in_flight.Statement.{statement}
 use Rattle.bank.proofs.words.in_flight.Tie as tie
 
-flight-at-requires : tie.Need-flight-at-requires
-flight-at-requires c κs = search rules
+flight_at-requires : tie.Need-flight_at-requires
+flight_at-requires c κs = search rules
 
-of-record-requires : tie.Need-of-record-requires
-of-record-requires c κs = omega (arith, c.flight-at.ensures, few c.before.before.args.room)
+of_record-requires : tie.Need-of_record-requires
+of_record-requires c κs = omega (arith, c.flight_at.ensures, few c.before.before.args.room)
 
 returns : tie.Need-returns
-returns c = rw (c.of-record.ensures, c.before.flight-at.ensures)
+returns c = rw (c.of_record.ensures, c.before.flight_at.ensures)
 
 pub in_flight_spec : {M : Type 1} → statement M
-in_flight_spec = tie.close (tie.spec flight-at-requires of-record-requires returns)
+in_flight_spec = tie.close (tie.spec flight_at-requires of_record-requires returns)

@@ -5,18 +5,18 @@ use Rattle.bank.proofs.Rooms.{no_later}
 use Rattle.bank.proofs.words.of_record.Statement.{statement}
 use Rattle.bank.proofs.words.of_record.Tie as tie
 
-record-at-requires : tie.Need-record-at-requires
-record-at-requires c κs = search rules
+record_at-requires : tie.Need-record_at-requires
+record_at-requires c κs = search rules
 
-add-word : tie.Need-overflow-add-word
-add-word c =
-    let a = c.before.before.args in omega (arith, c.record-at.ensures, no_later a.room a.m)
+overflow_add-record_at : tie.Need-overflow_add-record_at
+overflow_add-record_at c =
+    let a = c.before.before.args in omega (arith, c.record_at.ensures, no_later a.room a.m)
 
 word-requires : tie.Need-word-requires
 word-requires c κs = search rules
 
 returns : tie.Need-returns
-returns c = rw (c.word.ensures, c.before.record-at.ensures)
+returns c = rw (c.word.ensures, c.before.record_at.ensures)
 
 pub of_record_spec : {M : Type 1} → statement M
-of_record_spec = tie.close (tie.spec record-at-requires add-word word-requires returns)
+of_record_spec = tie.close (tie.spec record_at-requires overflow_add-record_at word-requires returns)

@@ -5,17 +5,17 @@ use borrow.Author.Rules.{rules}
 use Rattle.bank.proofs.words.word.Statement.{statement}
 use Rattle.bank.proofs.words.word.Tie as tie
 
-mul-result : tie.Need-overflow-mul-result
-mul-result c = search rules
+offset_bounds-bank-at : tie.Need-offset_bounds-bank-at
+offset_bounds-bank-at c = search rules
 
-shared-slice-read-result : tie.Need-shared-slice-read-result
-shared-slice-read-result c = search rules
+bounds-bank-at : tie.Need-bounds-bank-at
+bounds-bank-at c = search rules
 
-returns : tie.Need-returns
-returns c = search rules
+returns-then-at-bank : tie.Need-returns-then-at-bank
+returns-then-at-bank c = search rules
 
-returns-2 : tie.Need-returns-2
-returns-2 c = sym (get_or-eq_default c.before.args.bank.now 0 c.if1.false)
+returns-else-at-bank : tie.Need-returns-else-at-bank
+returns-else-at-bank c = sym (get_or-eq_default c.before.args.bank.now 0 c.if-at-bank.false)
 
 pub word_spec : {M : Type 1} → statement M
-word_spec = tie.close (tie.spec mul-result shared-slice-read-result returns returns-2)
+word_spec = tie.close (tie.spec offset_bounds-bank-at bounds-bank-at returns-then-at-bank returns-else-at-bank)
