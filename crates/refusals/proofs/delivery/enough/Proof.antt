@@ -17,20 +17,20 @@ few w n r e = omega (arith, how_many_le (has w) n)
 within-requires : tie.Need-within-requires
 within-requires c κs = search rules
 
+returns-then-mode-eq-ALL_ACK : tie.Need-returns-then-mode-eq-ALL_ACK
+unfolding enough
+returns-then-mode-eq-ALL_ACK c = rw (eq-eqb _ _ c.before.if-mode-eq-ALL_ACK.true) (cc)
+
+count_below-requires : tie.Need-count_below-requires
+count_below-requires c κs = search rules
+
+overflow_mul-result : tie.Need-overflow_mul-result
+overflow_mul-result c = let h = few _ _ _ c.count_below.ensures in omega arith
+
 returns : tie.Need-returns
 unfolding enough
-returns c = rw (eq-eqb _ _ c.before.if1.true) (cc)
-
-count-below-requires : tie.Need-count-below-requires
-count-below-requires c κs = search rules
-
-mul-result : tie.Need-overflow-mul-result
-mul-result c = let h = few _ _ _ c.count-below.ensures in omega arith
-
-returns-2 : tie.Need-returns-2
-unfolding enough
-returns-2 c = rw (ne_eqb _ _ c.before.if1.false) (cc)
+returns c = rw (ne_eqb _ _ c.before.if-mode-eq-ALL_ACK.false) (cc)
 
 pub enough_spec : {M : Type 1} → statement M
 enough_spec =
-    tie.close (tie.spec within-requires returns count-below-requires mul-result returns-2)
+    tie.close (tie.spec within-requires returns-then-mode-eq-ALL_ACK count_below-requires overflow_mul-result returns)

@@ -3,11 +3,11 @@ use borrow.Author.Rules.{rules}
 use Rattle.refusals.proofs.delivery.may_deliver.Statement.{statement}
 use Rattle.refusals.proofs.delivery.may_deliver.Tie as tie
 
-word-requires : tie.Need-word-requires
-word-requires c κs = search rules
+word-mode-requires : tie.Need-word-mode-requires
+word-mode-requires c κs = search rules
 
-word-requires-2 : tie.Need-word-requires-2
-word-requires-2 c κs = search rules
+word-n-requires : tie.Need-word-n-requires
+word-n-requires c κs = search rules
 
 view-requires : tie.Need-view-requires
 view-requires c κs = search rules
@@ -23,9 +23,9 @@ returns c =
     let a = c.before in
     let v = a.before in
     let n = v.before in
-    rw (a.acked.ensures, v.view.ensures, n.word2.ensures, n.before.word.ensures) at c.enough.ensures
+    rw (a.acked.ensures, v.view.ensures, n.word-n.ensures, n.before.word-mode.ensures) at c.enough.ensures
 
 pub may_deliver_spec : {M : Type 1} → statement M
 may_deliver_spec =
     tie.close
-    (tie.spec word-requires word-requires-2 view-requires acked-requires enough-requires returns)
+    (tie.spec word-mode-requires word-n-requires view-requires acked-requires enough-requires returns)

@@ -7,14 +7,14 @@ use Rattle.refusals.proofs.delivery.undelivered.Tie as tie
 has-requires : tie.Need-has-requires
 has-requires c κs = search rules
 
+returns-then-has : tie.Need-returns-then-has
+returns-then-has c = search tested
+
+returns-then-length-count : tie.Need-returns-then-length-count
+returns-then-length-count c = search tested
+
 returns : tie.Need-returns
 returns c = search tested
 
-returns-2 : tie.Need-returns-2
-returns-2 c = search tested
-
-returns-3 : tie.Need-returns-3
-returns-3 c = search tested
-
 pub undelivered_spec : {M : Type 1} → statement M
-undelivered_spec = tie.close (tie.spec has-requires returns returns-2 returns-3)
+undelivered_spec = tie.close (tie.spec has-requires returns-then-has returns-then-length-count returns)

@@ -4,86 +4,86 @@ use borrow.Author.Tests.{eq-eqb, ne_eqb}
 use Rattle.refusals.proofs.kinds.of_asked.Statement.{statement}
 use Rattle.refusals.proofs.kinds.of_asked.Tie as tie
 
-of-broadcast-requires : tie.Need-of-broadcast-requires
-of-broadcast-requires c κs = search rules
+of_broadcast-requires : tie.Need-of_broadcast-requires
+of_broadcast-requires c κs = search rules
 
-of-send-requires : tie.Need-of-send-requires
-of-send-requires c κs = search rules
+of_send-requires : tie.Need-of_send-requires
+of_send-requires c κs = search rules
 
-of-receive-requires : tie.Need-of-receive-requires
-of-receive-requires c κs = search rules
+of_receive-requires : tie.Need-of_receive-requires
+of_receive-requires c κs = search rules
 
-returns : tie.Need-returns
-returns c = rw (c.before.match.keys4, ne_eqb _ _ c.if1.true)
+returns-then-c-ne0 : tie.Need-returns-then-c-ne0
+returns-then-c-ne0 c = rw (c.before.in-4.is, ne_eqb _ _ c.if-c-ne0.true)
 
-delivery-refusal-requires : tie.Need-delivery-refusal-requires
-delivery-refusal-requires c κs = search rules
+delivery_refusal-requires : tie.Need-delivery_refusal-requires
+delivery_refusal-requires c κs = search rules
 
-returns-2 : tie.Need-returns-2
-returns-2 c = rw (c.before.match.keys5, ne_eqb _ _ c.if2.true)
+returns-then-b-ne0 : tie.Need-returns-then-b-ne0
+returns-then-b-ne0 c = rw (c.before.in-5.is, ne_eqb _ _ c.if-b-ne0.true)
 
-returns-3 : tie.Need-returns-3
-returns-3 c = rw (c.before.before.match.keys5, eq-eqb _ _ c.before.if2.false, ne_eqb _ _ c.if3.true)
+returns-then-c-ne0-2 : tie.Need-returns-then-c-ne0-2
+returns-then-c-ne0-2 c = rw (c.before.before.in-5.is, eq-eqb _ _ c.before.if-b-ne0.false, ne_eqb _ _ c.if-c-ne0-2.true)
 
-of-crash-requires : tie.Need-of-crash-requires
-of-crash-requires c κs = search rules
+of_crash-requires : tie.Need-of_crash-requires
+of_crash-requires c κs = search rules
 
-returns-4 : tie.Need-returns-4
-returns-4 c = rw (c.before.match.keys6, ne_eqb _ _ c.if4.true)
+returns-then-c-ne0-3 : tie.Need-returns-then-c-ne0-3
+returns-then-c-ne0-3 c = rw (c.before.in-6.is, ne_eqb _ _ c.if-c-ne0-3.true)
 
-of-detect-requires : tie.Need-of-detect-requires
-of-detect-requires c κs = search rules
+of_detect-requires : tie.Need-of_detect-requires
+of_detect-requires c κs = search rules
 
-of-lose-requires : tie.Need-of-lose-requires
-of-lose-requires c κs = search rules
+of_lose-requires : tie.Need-of_lose-requires
+of_lose-requires c κs = search rules
 
-returns-5 : tie.Need-returns-5
-returns-5 c = rw c.before.match.keys1 c.of-broadcast.ensures
+returns-in-1 : tie.Need-returns-in-1
+returns-in-1 c = rw c.before.in-1.is c.of_broadcast.ensures
 
-returns-6 : tie.Need-returns-6
-returns-6 c = rw c.before.match.keys2 c.of_send.ensures
+returns-in-2 : tie.Need-returns-in-2
+returns-in-2 c = rw c.before.in-2.is c.of_send.ensures
 
-returns-7 : tie.Need-returns-7
-returns-7 c = rw c.before.match.keys3 c.of-receive.ensures
+returns-in-3 : tie.Need-returns-in-3
+returns-in-3 c = rw c.before.in-3.is c.of_receive.ensures
 
-returns-8 : tie.Need-returns-8
-returns-8 c = rw (c.before.before.match.keys4, eq-eqb _ _ c.before.if1.false) c.delivery-refusal.ensures
+returns-else-c-ne0 : tie.Need-returns-else-c-ne0
+returns-else-c-ne0 c = rw (c.before.before.in-4.is, eq-eqb _ _ c.before.if-c-ne0.false) c.delivery_refusal.ensures
 
-returns-9 : tie.Need-returns-9
-returns-9 c =
+returns-else-c-ne0-2 : tie.Need-returns-else-c-ne0-2
+returns-else-c-ne0-2 c =
     let p = c.before in
-    rw (p.before.before.match.keys5, eq-eqb _ _ p.before.if2.false, eq-eqb _ _ p.if3.false)
-    c.of-crash.ensures
+    rw (p.before.before.in-5.is, eq-eqb _ _ p.before.if-b-ne0.false, eq-eqb _ _ p.if-c-ne0-2.false)
+    c.of_crash.ensures
 
-returns-10 : tie.Need-returns-10
-returns-10 c = rw (c.before.before.match.keys6, eq-eqb _ _ c.before.if4.false) c.of-detect.ensures
+returns-else-c-ne0-3 : tie.Need-returns-else-c-ne0-3
+returns-else-c-ne0-3 c = rw (c.before.before.in-6.is, eq-eqb _ _ c.before.if-c-ne0-3.false) c.of_detect.ensures
 
-returns-11 : tie.Need-returns-11
-returns-11 c = rw c.before.match.keys7 c.of-lose.ensures
+returns-in-7 : tie.Need-returns-in-7
+returns-in-7 c = rw c.before.in-7.is c.of_lose.ensures
 
-returns-12 : tie.Need-returns-12
-returns-12 c = search ne_eqb
+returns-in_default : tie.Need-returns-in_default
+returns-in_default c = search ne_eqb
 
 pub of_asked_spec : {M : Type 1} → statement M
 of_asked_spec =
     tie.close
     (tie.spec
-    of-broadcast-requires
-    of-send-requires
-    of-receive-requires
-    returns
-    delivery-refusal-requires
-    returns-2
-    returns-3
-    of-crash-requires
-    returns-4
-    of-detect-requires
-    of-lose-requires
-    returns-5
-    returns-6
-    returns-7
-    returns-8
-    returns-9
-    returns-10
-    returns-11
-    returns-12)
+    of_broadcast-requires
+    of_send-requires
+    of_receive-requires
+    returns-then-c-ne0
+    delivery_refusal-requires
+    returns-then-b-ne0
+    returns-then-c-ne0-2
+    of_crash-requires
+    returns-then-c-ne0-3
+    of_detect-requires
+    of_lose-requires
+    returns-in-1
+    returns-in-2
+    returns-in-3
+    returns-else-c-ne0
+    returns-else-c-ne0-2
+    returns-else-c-ne0-3
+    returns-in-7
+    returns-in_default)

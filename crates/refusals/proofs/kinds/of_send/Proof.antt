@@ -4,14 +4,14 @@ use borrow.Author.Rules.{rules}
 use Rattle.refusals.proofs.kinds.of_send.Statement.{statement}
 use Rattle.refusals.proofs.kinds.of_send.Tie as tie
 
-ends-requires : tie.Need-ends-requires
-ends-requires c κs = search rules
+ends-r-requires : tie.Need-ends-r-requires
+ends-r-requires c κs = search rules
 
-returns : tie.Need-returns
-returns c = search parted
+returns-then-r-ne-DONE : tie.Need-returns-then-r-ne-DONE
+returns-then-r-ne-DONE c = search parted
 
-word-requires : tie.Need-word-requires
-word-requires c κs = search rules
+word-up-requires : tie.Need-word-up-requires
+word-up-requires c κs = search rules
 
 unsent-requires : tie.Need-unsent-requires
 unsent-requires c κs = search rules
@@ -19,11 +19,11 @@ unsent-requires c κs = search rules
 moves-requires : tie.Need-moves-requires
 moves-requires c κs = search rules
 
-returns-2 : tie.Need-returns-2
-returns-2 c =
-    let e = rw (c.before.unsent.ensures, c.before.before.word.ensures) at c.moves.ensures in search parted
+returns : tie.Need-returns
+returns c =
+    let e = rw (c.before.unsent.ensures, c.before.before.word-up.ensures) at c.moves.ensures in search parted
 
 pub of_send_spec : {M : Type 1} → statement M
 of_send_spec =
     tie.close
-    (tie.spec ends-requires returns word-requires unsent-requires moves-requires returns-2)
+    (tie.spec ends-r-requires returns-then-r-ne-DONE word-up-requires unsent-requires moves-requires returns)
