@@ -26,8 +26,12 @@ DECLARED = (
 )
 # Words that are names of the library's functions, beside the definitions of this repository.
 LIBRARY = set("length append take drop set get map and or sub add mul cond eqb leb ltb min max replicate".split())
+# What else stands before a declared name.
+KEYWORDS = {"abbrev", "opaque", "unfoldable", "pub", "instance", "record", "data", "let"}
 # Where a definition's new name is a lemma's already, the lemma gets another.
 OTHERS = {"key_in": "PlaceIn-key_in"}
+# Bound variables that are no declarations.
+BOUND = {"heldFrom": "held_at_from", "heldTo": "held_at_to", "byReturn": "by_return"}
 DOCUMENTS = ["README.md", "CONTRIBUTING.md", "docs/*.md", "docs/notes/*.md"]
 
 
@@ -53,6 +57,9 @@ def answers(path):
 def declared(path):
     text = without_remarks(read(path))
     for line in text.split("\n"):
+        several = re.match(r"\s+((?:[a-z]\w*\s+)+[a-z]\w*)\s:\s", line)
+        if several:
+            yield from (w for w in several[1].split() if w not in KEYWORDS)
         for pattern in DECLARED:
             m = pattern.match(line)
             if m:
@@ -90,7 +97,7 @@ def table():
     by_file = {p: set(declared(p)) - asked for p in specs + proofs}
     definitions = {snake(n) for p in specs for n in by_file[p] if "-" not in n} | LIBRARY
     words = {p: set(WORD.findall(without_remarks(read(p)))) for p in specs + proofs}
-    rows = {}
+    rows = dict(BOUND)
     for p in specs + proofs:
         for n in by_file[p]:
             if len(n) < 3 or not re.fullmatch(r"[A-Za-z0-9'_₀-₉-]+", n):

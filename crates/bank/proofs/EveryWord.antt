@@ -5,7 +5,7 @@ use native.Mathlib.Nat.{zero-add, div-add-mod'}
 use native.Mathlib.Omega.{arith}
 use borrow.Author.Tests.{eq-eqb}
 use Rattle.bank.specs.Place.{Field, Place, sender, stamp, value, held, delivered, acked, unsent, in_flight, N}
-use Rattle.bank.specs.Place.{mode, count, up, view, logLength, log, message}
+use Rattle.bank.specs.Place.{mode, count, up, view, log_length, log, message}
 use Rattle.bank.specs.Layout.{Layout, record_widths, record_size, bank_widths, offset, address, size}
 use Rattle.bank.specs.Layout.{FieldIn, PlaceIn, PlacesAreWords}
 use Rattle.bank.proofs.Regions.{end, spots, at_words, row_of}
@@ -43,7 +43,7 @@ module _ (L : Layout) where
       (spots (λ i l. (count, tt, omega arith))
       (spots (λ i l. (up, tt, omega arith))
       (spots (λ i l. (view i, l, omega arith))
-      (spots (λ i l. (logLength i, l, omega arith))
+      (spots (λ i l. (log_length i, l, omega arith))
       (spots
       (λ i l. let r = row_of L.controllers L.messages i l in
       (log (i / L.messages) (i % L.messages), r, omega (arith, div-add-mod' i L.messages)))

@@ -10,7 +10,7 @@ use borrow.Author.Tests.{eqb-true, leb-true, eq-eqb, ne_eqb, le-leb}
 use Rattle.sets.specs.Set.{all_below}
 use Rattle.sets.proofs.Tests.{both}
 use Rattle.sets.proofs.Counts.{every_is, every-at}
-use Rattle.bank.specs.Place.{Place, Words, Write, ◌≔◌, N, mode, count, up, logLength}
+use Rattle.bank.specs.Place.{Place, Words, Write, ◌≔◌, N, mode, count, up, log_length}
 use Rattle.bank.specs.Layout.{Layout, size, address, words, PlaceIn}
 use Rattle.bank.specs.Fit.{Fit, fit, is_size, is_mode}
 use Rattle.bank.specs.Opening.{views, opening, opened, open_of}
@@ -54,7 +54,7 @@ decides p = weighty (key p)
 pub record Sound (L : Layout) (w : Words) : Type 0 where
   pub header : (1 ≤ w N) × (w N ≤ L.controllers) × (is_mode (w mode) ≡ true)
   pub given : w count ≤ L.messages
-  pub logs : (i : ℕ) → i < w N → w (logLength i) ≤ w count
+  pub logs : (i : ℕ) → i < w N → w (log_length i) ≤ w count
 
 module _ (L : Layout) where
   -- words that agree where it matters are fit together
@@ -65,7 +65,7 @@ module _ (L : Layout) where
       record {
         header = rw (n, e mode refl tt) s.header;
         given = rw c s.given;
-        logs = λ i l. omega (arith, e (logLength i) refl (omega (arith, s.header.1)), s.logs i (omega arith));
+        logs = λ i l. omega (arith, e (log_length i) refl (omega (arith, s.header.1)), s.logs i (omega arith));
       }
 
   pub fit-sound : (b : List ℕ) → Fit L b → Sound L (words L b)

@@ -7,7 +7,7 @@ use lib.ListN.{get_or}
 use borrow.Author.Tests.{eqb-true}
 use Rattle.sets.proofs.Tests.{both}
 use Rattle.bank.specs.Place.{Field, Place, Write, sender, stamp, value, held, delivered, acked, unsent, in_flight}
-use Rattle.bank.specs.Place.{N, mode, count, up, view, logLength, log, message}
+use Rattle.bank.specs.Place.{N, mode, count, up, view, log_length, log, message}
 use Rattle.bank.specs.Layout.{in_record, region_in, index}
 use Rattle.bank.specs.Opening.{views}
 use Rattle.bank.proofs.Places.{Key, key, same_place}
@@ -21,7 +21,7 @@ field_of r i =
 
 place_of : ℕ → ℕ → ℕ → ℕ → Place
 place_of r n i k =
-    get_or (N ∷ mode ∷ count ∷ up ∷ view i ∷ logLength i ∷ log k i ∷ message k (field_of n i) ∷ []) r N
+    get_or (N ∷ mode ∷ count ∷ up ∷ view i ∷ log_length i ∷ log k i ∷ message k (field_of n i) ∷ []) r N
 
 field_named : (f : Field) → field_of (region_in f) (index f) ≡ f
 unfolding field_of
@@ -41,7 +41,7 @@ place_named mode = refl
 place_named count = refl
 place_named up = refl
 place_named (view i) = refl
-place_named (logLength i) = refl
+place_named (log_length i) = refl
 place_named (log i k) = refl
 place_named (message m f) = ap (message m) (field_named f)
 

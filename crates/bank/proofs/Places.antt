@@ -11,7 +11,7 @@ use lib.Arith.{digits_lt}
 use borrow.Author.Tests.{eq-eqb, ne_eqb, eqb-true}
 use Rattle.sets.proofs.Tests.{both}
 use Rattle.bank.specs.Place.{Field, Place, sender, stamp, value, held, delivered, acked, unsent, in_flight, N}
-use Rattle.bank.specs.Place.{mode, count, up, view, logLength, log, message}
+use Rattle.bank.specs.Place.{mode, count, up, view, log_length, log, message}
 use Rattle.bank.specs.Layout.{Layout, start, record_widths, record_size, bank_widths}
 use Rattle.bank.specs.Layout.{offset, record_at, address, size, region_in, index, FieldIn, PlaceIn}
 use Rattle.bank.proofs.Regions.{start-below, in_regions, one_spot, one_row}
@@ -33,7 +33,7 @@ key mode = key4 1 0 0 0
 key count = key4 2 0 0 0
 key up = key4 3 0 0 0
 key (view i) = key4 4 0 i 0
-key (logLength i) = key4 5 0 i 0
+key (log_length i) = key4 5 0 i 0
 key (log i k) = key4 6 0 k i
 key (message m f) = key4 7 (region_in f) (index f) m
 
@@ -80,7 +80,7 @@ module _ (L : Layout) where
   address_key count = refl
   address_key up = refl
   address_key (view i) = omega arith
-  address_key (logLength i) = omega arith
+  address_key (log_length i) = omega arith
   address_key (log i k) = omega (arith, ap (λ x. i * x) (add-zero L.messages))
   address_key (message m f) = omega (arith, offset_key f)
 
@@ -105,7 +105,7 @@ module _ (L : Layout) where
   in_run count h = omega arith
   in_run up h = omega arith
   in_run (view i) h = h
-  in_run (logLength i) h = h
+  in_run (log_length i) h = h
   in_run (log i k) h = omega arith
   in_run (message m f) h = h.1
 
@@ -115,7 +115,7 @@ module _ (L : Layout) where
   in_region count h = omega arith
   in_region up h = omega arith
   in_region (view i) h = omega arith
-  in_region (logLength i) h = omega arith
+  in_region (log_length i) h = omega arith
   in_region (log i k) h =
       let l : k < L.messages = in_run (log i k) h in
       omega (arith, ap (λ x. i * x) (add-zero L.messages), digits_lt {q = i} {r = k} h.0 l)
@@ -132,7 +132,7 @@ module _ (L : Layout) where
       region_below count = omega arith
       region_below up = omega arith
       region_below (view i) = omega arith
-      region_below (logLength i) = omega arith
+      region_below (log_length i) = omega arith
       region_below (log i k) = omega arith
       region_below (message m f) = omega arith
 

@@ -1,7 +1,7 @@
 -- What makes a bank unfit. Calls other than opening test this first.
 use Rattle.std.specs.Prelude.{ℕ, ◌≤◌, ◌≡◌, Bool, true, ◌&&◌, ◌||◌, List, eqb, leb, length}
 use Rattle.sets.specs.Set.{every}
-use Rattle.bank.specs.Place.{Words, N, mode, count, logLength}
+use Rattle.bank.specs.Place.{Words, N, mode, count, log_length}
 use Rattle.bank.specs.Layout.{Layout, size, words}
 
 -- the modes' numbers
@@ -20,7 +20,7 @@ is_size L n = leb 1 n && leb n L.controllers
 
 -- a log is no longer than there are messages
 abbrev pub log_fits : Words → ℕ → Bool
-log_fits w i = leb (w (logLength i)) (w count)
+log_fits w i = leb (w (log_length i)) (w count)
 
 abbrev pub fit_words : Layout → Words → Bool
 fit_words L w =

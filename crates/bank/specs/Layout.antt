@@ -1,7 +1,7 @@
 -- Where each word stands. A layout is two numbers; every address follows from them as regions laid one after another.
 use Rattle.std.specs.Prelude.{ℕ, zero, suc, ◌+◌, ◌*◌, ◌<◌, ◌≡◌, Bool, true, false, List, [], ◌∷◌, ◌++◌, map, get_or, set}
 use Rattle.bank.specs.Place.{Field, Place, Words, Record, Write, ◌≔◌, sender, stamp, value, held, delivered}
-use Rattle.bank.specs.Place.{acked, unsent, in_flight, N, mode, count, up, view, logLength, log, message}
+use Rattle.bank.specs.Place.{acked, unsent, in_flight, N, mode, count, up, view, log_length, log, message}
 
 -- for how many controllers and how many messages a bank has room
 pub record Layout : Type 0 where
@@ -85,7 +85,7 @@ address L mode = start 1 (bank_widths L)
 address L count = start 2 (bank_widths L)
 address L up = start 3 (bank_widths L)
 address L (view i) = start 4 (bank_widths L) + i
-address L (logLength i) = start 5 (bank_widths L) + i
+address L (log_length i) = start 5 (bank_widths L) + i
 address L (log i k) = (start 6 (bank_widths L) + i * L.messages) + k
 address L (message m f) = record_at L m + offset L f
 
@@ -125,7 +125,7 @@ PlaceIn L mode = Unit {0}
 PlaceIn L count = Unit {0}
 PlaceIn L up = Unit {0}
 PlaceIn L (view i) = i < L.controllers
-PlaceIn L (logLength i) = i < L.controllers
+PlaceIn L (log_length i) = i < L.controllers
 PlaceIn L (log i k) = (i < L.controllers) × (k < L.messages)
 PlaceIn L (message m f) = (m < L.messages) × FieldIn L f
 

@@ -1,6 +1,6 @@
 // The numbers of the two sizes of bank, and where each word stands. Nothing else looks at which size a bank has.
 ghost use Rattle.std.specs.Prelude.{◌≡◌, ◌+◌};
-ghost use Rattle.bank.specs.Place.{view, logLength, log, acked, unsent, in_flight};
+ghost use Rattle.bank.specs.Place.{view, log_length, log, acked, unsent, in_flight};
 ghost use Rattle.bank.specs.Layout;
 ghost use Rattle.bank.specs.Layout.{paper, layout, record_size, record_at, offset, address};
 
@@ -114,7 +114,7 @@ pub fn view_at(i: u16) -> usize
 }
 
 pub fn length_at(room: Room, i: u16) -> usize
-    ensures { result ≡ address (layout room) (logLength i) }
+    ensures { result ≡ address (layout room) (log_length i) }
 {
     if room {
         Rack::LENGTHS + i as usize

@@ -22,7 +22,7 @@ pub fn view(bank: &[u16], i: u16) -> u16
 
 // How long controller i's log is.
 pub fn logged(bank: &[u16], room: Room, i: u16) -> u16
-    ensures { result ≡ Layout.words (layout room) bank.now (Place.logLength i) }
+    ensures { result ≡ Layout.words (layout room) bank.now (Place.log_length i) }
 {
     word(bank, length_at(room, i))
 }

@@ -6,7 +6,7 @@ use Prim.Native.Nat.{ℕ, ◌<◌}
 use native.Mathlib.Omega.{arith}
 use borrow.Author.Tests.{lt-ltb, ltb-true, eq-eqb, eqb-true, not-true}
 use Rattle.sets.specs.Set.{has}
-use Rattle.bank.specs.Place.{Field, Place, Words, N, mode, count, up, view, logLength, message}
+use Rattle.bank.specs.Place.{Field, Place, Words, N, mode, count, up, view, log_length, message}
 use Rattle.bank.specs.Place.{held, delivered, acked, unsent, in_flight}
 use Rattle.bank.specs.Layout.{Layout, words, PlaceIn, FieldIn}
 use Rattle.bank.specs.Fit.{Fit}
@@ -99,7 +99,7 @@ module _ (L : Layout) (b : List ℕ) where
   Roomy (broadcast who s v) = Unit {0}
   Roomy (send from to m) = Unit {0}
   Roomy (receive i from m) = Unit {0}
-  Roomy (deliver i m) = w (logLength i) < w count
+  Roomy (deliver i m) = w (log_length i) < w count
   Roomy (crash who) = Unit {0}
   Roomy (detect i j) = Unit {0}
   Roomy (lose from to m) = Unit {0}

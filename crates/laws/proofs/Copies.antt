@@ -3,7 +3,7 @@ use mathlib.Core.Path.{◌≡◌, refl}
 use mathlib.Core.Bool.{Bool, true, false, cond, not, ◌&&◌, false≢true}
 
 -- of the two controllers: are they up, do they hold the message; of the copy: is it unsent, in flight, acked
-pub data Copy (up_from up_to : Bool) : (heldFrom heldTo unsent in_flight acked : Bool) → Type 0 where
+pub data Copy (up_from up_to : Bool) : (held_at_from held_at_to unsent in_flight acked : Bool) → Type 0 where
   none : {g : Bool} → Copy up_from up_to false g false false false
   waiting : {g : Bool} → Copy up_from up_to true g true false false
   flying : {g : Bool} → Copy up_from up_to true g false true false
@@ -13,8 +13,8 @@ pub data Copy (up_from up_to : Bool) : (heldFrom heldTo unsent in_flight acked :
 
 -- ---- what is known of it
 
-pub unsent_held : {u v h g f a : Bool} → Copy u v h g true f a → h ≡ true
-unsent_held waiting = refl
+pub unsent-held : {u v h g f a : Bool} → Copy u v h g true f a → h ≡ true
+unsent-held waiting = refl
 
 pub acked_from : {u v h g x f : Bool} → Copy u v h g x f true → h ≡ true
 acked_from arrived = refl

@@ -11,7 +11,7 @@ use lib.ListN.{length}
 use borrow.Author.Tests.{ltb-true, ltb-false}
 use Rattle.sets.specs.Set.{has, how_many}
 use Rattle.sets.proofs.Counts.{how_many_same}
-use Rattle.bank.specs.Place.{Place, N, mode, count, up, view, logLength, log, message}
+use Rattle.bank.specs.Place.{Place, N, mode, count, up, view, log_length, log, message}
 use Rattle.bank.specs.Place.{sender, stamp, value, held, delivered, acked, unsent, in_flight}
 use Rattle.bank.specs.Layout.{Layout, words, PlaceIn}
 use Rattle.bank.specs.Fit.{Fit}
@@ -142,10 +142,10 @@ module _ (L : Layout) (n k : ℕ) where
     same_N_count : (words L x N ≡ words L y N) × (words L x count ≡ words L y count)
     same_N_count = let h = shown_header x y e in (h.0 tt, h.2 tt)
 
-    same_length : (i : ℕ) → i < L.controllers → words L x (logLength i) ≡ words L y (logLength i)
+    same_length : (i : ℕ) → i < L.controllers → words L x (log_length i) ≡ words L y (log_length i)
     same_length i l = go (ltb i (words L x N)) refl
       where
-        go : (t : Bool) → ltb i (words L x N) ≡ t → words L x (logLength i) ≡ words L y (logLength i)
+        go : (t : Bool) → ltb i (words L x N) ≡ t → words L x (log_length i) ≡ words L y (log_length i)
         go true h =
             let j = ltb-true i (words L x N) h in
             (reached-logs (reached_on r p)).lengths i j
@@ -162,7 +162,7 @@ module _ (L : Layout) (n k : ℕ) where
     same_outside count h z = (shown_header x y e).2 h
     same_outside up h z = (shown_header x y e).3 h
     same_outside (view i) h z = (shown_header x y e).4 i h
-    same_outside (logLength i) h z = same_length i h
+    same_outside (log_length i) h z = same_length i h
     same_outside (log i j) h z = absurd (z i j refl)
     same_outside (message m sender) h z = (shown_record x y e m).0 h
     same_outside (message m stamp) h z = stamp-kept L m h.0 p ∙ sym (stamp-kept L m h.0 q)

@@ -11,7 +11,7 @@ use lib.Seq.{drop-cons}
 use borrow.Author.Tests.{lt-ltb, le-ltb, leb-true}
 use Rattle.sets.specs.Set.{how_many}
 use Rattle.sets.proofs.Counts.{every-at}
-use Rattle.bank.specs.Place.{N, count, logLength, log}
+use Rattle.bank.specs.Place.{N, count, log_length, log}
 use Rattle.bank.specs.Layout.{Layout, start, bank_widths, address, words, up_from}
 use Rattle.bank.specs.Fit.{Fit, log_fits}
 use Rattle.lists.specs.Logs.{log_of}
@@ -42,28 +42,28 @@ count_from x at (suc n) j =
     ∙ ap (how_many (λ k. eqb (at k) x)) (let e : suc j + n ≡ j + suc n = omega arith in e)
 
 module _ (L : Layout) (b : List ℕ) (f : Fit L b) (i : ℕ) (l : i < words L b N) where
-  pub log_short : words L b (logLength i) ≤ words L b count
+  pub log_short : words L b (log_length i) ≤ words L b count
   log_short = leb-true _ _ (every-at (log_fits (words L b)) (words L b N) f.logs i l)
 
-  pub log-entries : log_of L b i ≡ map (λ k. words L b (log i k)) (up_from 0 (words L b (logLength i)))
+  pub log-entries : log_of L b i ≡ map (λ k. words L b (log i k)) (up_from 0 (words L b (log_length i)))
   log-entries =
       ap (λ n. take n (drop (address L (log i 0)) b))
       (whole_length L b i (log_there L b i (facts_fit L b f) (lt-ltb _ _ l)))
-      ∙ part_words b (start 6 (bank_widths L) + i * L.messages) (words L b (logLength i)) 0 within
+      ∙ part_words b (start 6 (bank_widths L) + i * L.messages) (words L b (log_length i)) 0 within
     where
-      within : (k : ℕ) → k < 0 + words L b (logLength i) → address L (log i k) < length b
+      within : (k : ℕ) → k < 0 + words L b (log_length i) → address L (log i k) < length b
       within k h =
           let room : k < L.messages = omega (arith, log_short, f.given) in
           rw f.whole (inside L (log i k) (omega (arith, f.few), room))
 
   pub log-occurs : (x : ℕ)
-      → occurs x (log_of L b i) ≡ how_many (λ k. eqb (words L b (log i k)) x) (words L b (logLength i))
+      → occurs x (log_of L b i) ≡ how_many (λ k. eqb (words L b (log i k)) x) (words L b (log_length i))
   unfolding how_many
   log-occurs x =
       ap (occurs x) log-entries
       ∙ sym (zero-add _)
-      ∙ count_from x (λ k. words L b (log i k)) (words L b (logLength i)) 0
-      ∙ ap (how_many (λ k. eqb (words L b (log i k)) x)) (zero-add (words L b (logLength i)))
+      ∙ count_from x (λ k. words L b (log i k)) (words L b (log_length i)) 0
+      ∙ ap (how_many (λ k. eqb (words L b (log i k)) x)) (zero-add (words L b (log_length i)))
 
 -- a controller that is not there has no log
 pub no_log : (L : Layout) (b : List ℕ) → Fit L b → (i : ℕ) → words L b N ≤ i → log_of L b i ≡ []

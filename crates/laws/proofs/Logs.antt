@@ -9,7 +9,7 @@ use borrow.Author.Tests.{eq-eqb, ne_eqb, eqb-true, eqb-false, lt-ltb, le-ltb, lt
 use Rattle.sets.specs.Set.{has, with, how_many}
 use Rattle.sets.proofs.Members.{has-none, has-with}
 use Rattle.sets.proofs.Counts.{how_many_gap}
-use Rattle.bank.specs.Place.{Words, N, count, logLength, log, message, delivered}
+use Rattle.bank.specs.Place.{Words, N, count, log_length, log, message, delivered}
 use Rattle.bank.specs.Layout.{Layout, words}
 use Rattle.bank.specs.Fit.{is_size, is_mode}
 use Rattle.bank.specs.Opening.{opened}
@@ -34,7 +34,7 @@ abbrev told : Words → ℕ → ℕ → Bool
 told w i x = is_message w x && has_delivered w i x
 
 abbrev Log : Layout → Words → ℕ → Type 0
-Log L w i = Lists L.messages (told w i) (w (logLength i)) (λ k. w (log i k))
+Log L w i = Lists L.messages (told w i) (w (log_length i)) (λ k. w (log i k))
 
 -- every controller's log lists what it has delivered
 abbrev Logs : Layout → List ℕ → Type 0
@@ -49,17 +49,17 @@ module _ (L : Layout) (b : List ℕ) (s : Step) (a : Allowed L b s) where
   in_layout : (i : ℕ) → i < words L b N → i < L.controllers
   in_layout i l = omega (arith, a.sound.few)
 
-  entry_in_layout : (i k : ℕ) → i < words L b N → k < words L b (logLength i)
+  entry_in_layout : (i k : ℕ) → i < words L b N → k < words L b (log_length i)
       → (i < L.controllers) × (k < L.messages)
   entry_in_layout i k l r = (in_layout i l, omega (arith, log_short L b a.sound i l, a.sound.given))
 
   -- a step that leaves the log alone, and of each message whether i has delivered it
-  still : (i : ℕ) → i < words L b N → keeps (words L b) s (key (logLength i)) ≡ true
+  still : (i : ℕ) → i < words L b N → keeps (words L b) s (key (log_length i)) ≡ true
       → ((k : ℕ) → keeps (words L b) s (key (log i k)) ≡ true) → ((x : ℕ) → told (new L b s) i x ≡ told (words L b) i x)
       → Log L (words L b) i → Log L (new L b s) i
   still i l n e t h =
       lists_same h (λ k r. untouched L b s a (log i k) (entry_in_layout i k l r) (e k))
-      (untouched L b s a (logLength i) (in_layout i l) n) t
+      (untouched L b s a (log_length i) (in_layout i l) n) t
 
   same_told : (i x : ℕ) → ltb x (new L b s count) ≡ ltb x (words L b count)
       → keeps (words L b) s (key (message x delivered)) ≡ true → told (new L b s) i x ≡ told (words L b) i x
@@ -76,7 +76,7 @@ module _ (L : Layout) (b : List ℕ) (s : Step) (a : Allowed L b s) where
   quiet : ((k : Key) → spares (words L b) s k ≡ steady k) → (i : ℕ) → i < words L b N
       → Log L (words L b) i → Log L (new L b s) i
   quiet e i l =
-      still i l (e (key (logLength i))) (λ k. e (key (log i k)))
+      still i l (e (key (log_length i))) (λ k. e (key (log i k)))
       (λ x. same_told i x (ap (ltb x) (untouched L b s a count tt (e (key count)))) (e (key (message x delivered))))
 
 -- a broadcast leaves what was delivered, and its own message is delivered nowhere
@@ -140,7 +140,7 @@ module _ (L : Layout) (b : List ℕ) (i m : ℕ) (a : Allowed L b (deliver i m))
   own : Log L (words L b) i → Log L (new L b (deliver i m)) i
   own h =
       let w = words L b in
-      let n : ℕ = words L b (logLength i) in
+      let n : ℕ = words L b (log_length i) in
       let self : eqb i i ≡ true = eq-eqb i i refl in
       let at : i < L.controllers = in_layout L b (deliver i m) a i here in
       let end : n < L.messages = omega (arith, ltb-true n (w count) granted.room, a.sound.given) in
@@ -148,7 +148,7 @@ module _ (L : Layout) (b : List ℕ) (i m : ℕ) (a : Allowed L b (deliver i m))
       (λ k r. word_after L b (deliver i m) a (log i k) (at, omega arith) ∙ rw (ne_eqb n k (λ q. omega arith)))
       m (omega (arith, there, a.sound.given))
       (ap (λ t. is_message w m && t) (not-true (has_delivered w i m) granted.due.new) ∙ and-false (is_message w m))
-      (word_after L b (deliver i m) a (logLength i) at ∙ rw self)
+      (word_after L b (deliver i m) a (log_length i) at ∙ rw self)
       (word_after L b (deliver i m) a (log i n) (at, end) ∙ rw (eq-eqb n n refl, self))
       (λ x. told-deliver i x ∙ rw (self, and-true))
 
@@ -157,7 +157,7 @@ module _ (L : Layout) (b : List ℕ) (i m : ℕ) (a : Allowed L b (deliver i m))
       lists_same h
       (λ k r. word_after L b (deliver i m) a (log j k) (entry_in_layout L b (deliver i m) a j k l r)
       ∙ rw (e, and-false))
-      (word_after L b (deliver i m) a (logLength j) (in_layout L b (deliver i m) a j l) ∙ rw e)
+      (word_after L b (deliver i m) a (log_length j) (in_layout L b (deliver i m) a j l) ∙ rw e)
       (λ x. told-deliver j x ∙ rw (e, and-false, or-false))
 
 -- ---- a run
@@ -186,7 +186,7 @@ module _ (L : Layout) (n k : ℕ) (fits : is_size L n ≡ true) (known : is_mode
       let w = words L (opened L n k) in
       let none : w count ≡ 0 = opened-word L n k fits count tt refl in
       let at : i < L.controllers = omega (arith, (fit_opened L n k fits known).few) in
-      let empty : w (logLength i) ≡ 0 = opened-word L n k fits (logLength i) at refl in
+      let empty : w (log_length i) ≡ 0 = opened-word L n k fits (log_length i) at refl in
       record {
         once = λ x. rw (empty, none, le-ltb x 0 (omega arith));
         long = empty
@@ -220,6 +220,6 @@ module _ (L : Layout) (n k : ℕ) (fits : is_size L n ≡ true) (known : is_mode
   -- so a delivery that nothing else refuses finds room
   pub delivered_room : {es : List Step} {b : List ℕ} → Run (Allowed L) (after L) (opened L n k) es b
       → (i m : ℕ) → i < words L b N → m < words L b count → has_delivered (words L b) i m ≡ false
-      → words L b (logLength i) < words L b count
+      → words L b (log_length i) < words L b count
   delivered_room {b = b} r i m l q z =
       rw ((logs_hold_broadcasts r).lengths i l) (how_many_gap (has_delivered (words L b) i) (words L b count) m q z)

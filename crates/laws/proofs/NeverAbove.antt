@@ -10,7 +10,7 @@ use borrow.Author.Tests.{eq-eqb, ne_eqb, ltb-true, le-ltb}
 use Rattle.sets.specs.Set.{has, with, all_below}
 use Rattle.sets.proofs.Members.{has-none, has-with, has-all_below}
 use Rattle.bank.specs.Place.{Field, Place, sender, stamp, value, held, delivered, acked, unsent, in_flight, N, mode}
-use Rattle.bank.specs.Place.{count, up, view, logLength, log, message}
+use Rattle.bank.specs.Place.{count, up, view, log_length, log, message}
 use Rattle.bank.specs.Layout.{Layout, words, PlaceIn}
 use Rattle.bank.specs.Fit.{is_size}
 use Rattle.bank.specs.Opening.{views, opening, opened, open_of}
@@ -95,7 +95,7 @@ in_record m mode = no (λ h. never (cc))
 in_record m count = no (λ h. never (cc))
 in_record m up = no (λ h. never (cc))
 in_record m (view i) = no (λ h. never (cc))
-in_record m (logLength i) = no (λ h. never (cc))
+in_record m (log_length i) = no (λ h. never (cc))
 in_record m (log i k) = no (λ h. never (cc))
 in_record m (message k f) = go (ℕ_discrete k m)
   where

@@ -8,7 +8,7 @@ use native.Mathlib.Nat.{lt_irrefl}
 use native.Mathlib.Omega.{arith}
 use lib.Dec.{eqb, ltb}
 use borrow.Author.Tests.{eq-eqb, eqb-true, ltb-true, ltb-false}
-use Rattle.bank.specs.Place.{Place, Words, N, mode, count, up, logLength, log, message, stamp, value}
+use Rattle.bank.specs.Place.{Place, Words, N, mode, count, up, log_length, log, message, stamp, value}
 use Rattle.bank.specs.Layout.{Layout, words, PlaceIn}
 use Rattle.refusals.specs.Step.{Step, broadcast, send, receive, deliver, crash, detect, lose}
 use Rattle.group.specs.Writes.{writes}
@@ -100,17 +100,17 @@ module _ (L : Layout) where
   -- ---- lengths and logs, which only a deliver touches
 
   pub record LogStep (b c : List ℕ) (i : ℕ) : Type 0 where
-    pub grows : words L b (logLength i) ≤ words L c (logLength i)
-    pub same : (k : ℕ) → k < L.messages → k < words L b (logLength i) → words L c (log i k) ≡ words L b (log i k)
-    pub absent : words L b N ≤ i → words L c (logLength i) ≡ words L b (logLength i)
-    pub past : (k : ℕ) → k < L.messages → words L c (logLength i) ≤ k → words L c (log i k) ≡ words L b (log i k)
+    pub grows : words L b (log_length i) ≤ words L c (log_length i)
+    pub same : (k : ℕ) → k < L.messages → k < words L b (log_length i) → words L c (log i k) ≡ words L b (log i k)
+    pub absent : words L b N ≤ i → words L c (log_length i) ≡ words L b (log_length i)
+    pub past : (k : ℕ) → k < L.messages → words L c (log_length i) ≤ k → words L c (log i k) ≡ words L b (log i k)
 
   -- a step that touches neither
   still : (b : List ℕ) (s : Step) → Allowed L b s → (i : ℕ) → i < L.controllers
-      → keeps (words L b) s (key (logLength i)) ≡ true → ((k : ℕ) → keeps (words L b) s (key (log i k)) ≡ true)
+      → keeps (words L b) s (key (log_length i)) ≡ true → ((k : ℕ) → keeps (words L b) s (key (log i k)) ≡ true)
       → LogStep b (after L b s) i
   still b s a i l h g =
-      let e = untouched L b s a (logLength i) l h in
+      let e = untouched L b s a (log_length i) l h in
       record {
         grows = omega (arith, e);
         same = λ k j _. untouched L b s a (log i k) (l, j) (g k);
@@ -125,32 +125,32 @@ module _ (L : Layout) where
         grows = go (eqb j i) refl;
         same = λ k h g.
             word_after L b (deliver j m) a (log i k) (l, h)
-            ∙ unless_both (words L b (logLength j)) k j i m _
-            (λ e. lt_irrefl k (omega (arith, g, e.0, ap (λ i. words L b (logLength i)) e.1)));
+            ∙ unless_both (words L b (log_length j)) k j i m _
+            (λ e. lt_irrefl k (omega (arith, g, e.0, ap (λ i. words L b (log_length i)) e.1)));
         absent = λ h. here
             ∙ unless j i _ _
             (λ e. lt_irrefl j (omega (arith, ltb-true j _ (deliver_granted L (words L b) a.free).due.there)));
         past = λ k h g.
             word_after L b (deliver j m) a (log i k) (l, h)
-            ∙ unless_both (words L b (logLength j)) k j i m _
+            ∙ unless_both (words L b (log_length j)) k j i m _
             (λ e. lt_irrefl k (omega (arith, g, taken e.1, e.0)));
       }
     where
-      here : words L (after L b (deliver j m)) (logLength i)
-          ≡ cond (eqb j i && true) (words L b (logLength j) + 1) (words L b (logLength i))
-      here = word_after L b (deliver j m) a (logLength i) l
+      here : words L (after L b (deliver j m)) (log_length i)
+          ≡ cond (eqb j i && true) (words L b (log_length j) + 1) (words L b (log_length i))
+      here = word_after L b (deliver j m) a (log_length i) l
 
-      taken : j ≡ i → words L (after L b (deliver j m)) (logLength i) ≡ words L b (logLength j) + 1
+      taken : j ≡ i → words L (after L b (deliver j m)) (log_length i) ≡ words L b (log_length j) + 1
       taken e =
           here
-          ∙ ap (λ t. cond (t && true) (words L b (logLength j) + 1) (words L b (logLength i))) (eq-eqb j i e)
+          ∙ ap (λ t. cond (t && true) (words L b (log_length j) + 1) (words L b (log_length i))) (eq-eqb j i e)
 
-      go : (t : Bool) → eqb j i ≡ t → words L b (logLength i) ≤ words L (after L b (deliver j m)) (logLength i)
+      go : (t : Bool) → eqb j i ≡ t → words L b (log_length i) ≤ words L (after L b (deliver j m)) (log_length i)
       go true e =
           let q = eqb-true j i e in
-          omega (arith, taken q, ap (λ x. words L b (logLength x)) q)
+          omega (arith, taken q, ap (λ x. words L b (log_length x)) q)
       go false e =
-          omega (arith, here ∙ ap (λ t. cond (t && true) (words L b (logLength j) + 1) (words L b (logLength i))) e)
+          omega (arith, here ∙ ap (λ t. cond (t && true) (words L b (log_length j) + 1) (words L b (log_length i))) e)
 
   log-step : (b : List ℕ) (s : Step) → Allowed L b s → (i : ℕ) → i < L.controllers → LogStep b (after L b s) i
   log-step b (broadcast who s v) a i l = still b (broadcast who s v) a i l refl (λ k. refl)
@@ -178,11 +178,11 @@ module _ (L : Layout) where
   -- of a controller that is not there, every word of the log stays
   pub log-absent : (i : ℕ) → i < L.controllers → {b x : List ℕ} {es : List Step} → Run (Allowed L) (after L) b es x
       → words L b N ≤ i → (k : ℕ) → k < L.messages → words L x (log i k) ≡ words L b (log i k)
-  log-absent i l {b} {x} r q k j = go (ltb k (words L b (logLength i))) refl
+  log-absent i l {b} {x} r q k j = go (ltb k (words L b (log_length i))) refl
     where
       g : LogStep b x i
       g = log-run i l r
 
-      go : (t : Bool) → ltb k (words L b (logLength i)) ≡ t → words L x (log i k) ≡ words L b (log i k)
-      go true e = g.same k j (ltb-true k (words L b (logLength i)) e)
-      go false e = g.past k j (omega (arith, ltb-false k (words L b (logLength i)) e, g.absent q))
+      go : (t : Bool) → ltb k (words L b (log_length i)) ≡ t → words L x (log i k) ≡ words L b (log i k)
+      go true e = g.same k j (ltb-true k (words L b (log_length i)) e)
+      go false e = g.past k j (omega (arith, ltb-false k (words L b (log_length i)) e, g.absent q))

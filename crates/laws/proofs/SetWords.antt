@@ -10,7 +10,7 @@ use native.Mathlib.Omega.{arith}
 use Rattle.sets.specs.Set.{has, with, without}
 use Rattle.sets.proofs.Members.{has-with, has-without}
 use Rattle.bank.specs.Place.{Field, Place, Write, ◌≔◌, sender, stamp, value, held, delivered, acked, unsent, in_flight}
-use Rattle.bank.specs.Place.{N, mode, count, up, view, logLength, log, message}
+use Rattle.bank.specs.Place.{N, mode, count, up, view, log_length, log, message}
 use Rattle.bank.specs.Layout.{Layout, fields, in_record}
 use Rattle.refusals.specs.Step.{Step, broadcast, send, receive, deliver, crash, detect, lose}
 use Rattle.group.specs.Writes.{fresh, writes}
@@ -25,7 +25,7 @@ module _ (L : Layout) where
   changed_by count e = absurd (false≢true e)
   changed_by up e = (crash 0, 0, λ w. inr (Memᴰ.head refl))
   changed_by (view i) e = (detect i 0, 0, λ w. inr (Memᴰ.head refl))
-  changed_by (logLength i) e = absurd (false≢true e)
+  changed_by (log_length i) e = absurd (false≢true e)
   changed_by (log i k) e = absurd (false≢true e)
   changed_by (message m sender) e = absurd (false≢true e)
   changed_by (message m stamp) e = absurd (false≢true e)

@@ -9,7 +9,7 @@ use native.Mathlib.Omega.{arith}
 use lib.Dec.{eqb, ltb}
 use borrow.Author.Tests.{ne_eqb, ltb-true, ltb-false}
 use Rattle.sets.specs.Set.{has}
-use Rattle.bank.specs.Place.{N, count, up, logLength, log, message, delivered}
+use Rattle.bank.specs.Place.{N, count, up, log_length, log, message, delivered}
 use Rattle.bank.specs.Layout.{Layout, words, up_from}
 use Rattle.bank.specs.Fit.{Fit}
 use Rattle.refusals.specs.Step.{Step, broadcast, send, receive, deliver, crash, detect, lose}
@@ -140,11 +140,11 @@ module _ (L : Layout) {b x : List ℕ} {es : List Step} (fb : Fit L b) (fx : Fit
   there_grows l =
       let g = log-run L i (omega (arith, fb.few)) r in
       let at : List ℕ → ℕ → ℕ = λ b k. words L b (log i k) in
-      let n : ℕ = words L b (logLength i) in
-      let k : ℕ = words L x (logLength i) - n in (
+      let n : ℕ = words L b (log_length i) in
+      let k : ℕ = words L x (log_length i) - n in (
         map (at x) (up_from n k),
         log-entries L x fx i (omega (arith, N-kept L r))
-            ∙ ap (λ k. map (at x) (up_from 0 k)) (let s : words L x (logLength i) ≡ n + k = omega (arith, g.grows) in s)
+            ∙ ap (λ k. map (at x) (up_from 0 k)) (let s : words L x (log_length i) ≡ n + k = omega (arith, g.grows) in s)
             ∙ longer (at b) (at x) n k 0
             (λ j h. g.same j (omega (arith, log_short L b fb i l, fb.given)) (omega arith))
             ∙ ap₂ (λ begun j. begun ++ map (at x) (up_from j k)) (sym (log-entries L b fb i l)) (zero-add n),

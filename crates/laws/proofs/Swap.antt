@@ -15,7 +15,7 @@ use Rattle.laws.proofs.Onward.{SettlingKind, sends, receives, delivers, detects,
 use Rattle.laws.proofs.OneEnd.{Square, Diamond, same_end}
 use Rattle.laws.proofs.Enough.{enough_grows}
 use Rattle.laws.proofs.Cells.{was_in, on_one}
-use Rattle.laws.proofs.Copies.{unsent_held, apart}
+use Rattle.laws.proofs.Copies.{unsent-held, apart}
 use Rattle.laws.proofs.Keep.{Inv, keep}
 use Rattle.laws.proofs.Meet.{EitherOrder, HasUnsent, HasInFlight, stays, twice}
 use Rattle.laws.proofs.Meet.{two_sends, two_receipts, send_receipt, receipt_delivery, two_deliveries}
@@ -79,7 +79,7 @@ module _ (room : ℕ) (s : Sets) (h : Inv s) where
       in_messages s m k (after_send from to) (after_receive s.N i j) (HasUnsent from to) (HasInFlight i j) x y
       (λ e q.
       let c = rw x.2 at ((h.sound m).copies from to) in
-      send_receipt (s.message m) from to i j s.N (unsent_held c) (apart c) x.2 q)
+      send_receipt (s.message m) from to i j s.N (unsent-held c) (apart c) x.2 q)
 
   send-deliver : (from to m i k : ℕ) → Commute (send from to m) (deliver i k)
   unfolding act

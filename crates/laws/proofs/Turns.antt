@@ -7,7 +7,7 @@ use Prim.Native.Nat.{ℕ, zero, suc, ◌+◌, ◌≤◌, ◌<◌}
 use native.Mathlib.Omega.{arith}
 use lib.Dec.{eqb, ltb}
 use borrow.Author.Tests.{ne_eqb, eqb-true, ltb-true, ltb-false}
-use Rattle.bank.specs.Place.{count, logLength}
+use Rattle.bank.specs.Place.{count, log_length}
 use Rattle.bank.specs.Layout.{Layout, words}
 use Rattle.bank.specs.Fit.{Fit}
 use Rattle.refusals.specs.Step.{Step, broadcast, send, receive, deliver, crash, detect, lose}
@@ -56,19 +56,19 @@ module _ (L : Layout) (b : List ℕ) where
   count_stays (detects {i} {j}) a = untouched L b (detect i j) a count tt refl
 
   log_grows : {e : Step} → SettlingKind e → Allowed L b e → (i : ℕ) → i < L.controllers
-      → words L b (logLength i) ≤ words L (after L b e) (logLength i)
-  log_grows (sends {from} {to} {m}) a i l = omega (arith, untouched L b (send from to m) a (logLength i) l refl)
-  log_grows (receives {i = j} {from} {m}) a i l = omega (arith, untouched L b (receive j from m) a (logLength i) l refl)
+      → words L b (log_length i) ≤ words L (after L b e) (log_length i)
+  log_grows (sends {from} {to} {m}) a i l = omega (arith, untouched L b (send from to m) a (log_length i) l refl)
+  log_grows (receives {i = j} {from} {m}) a i l = omega (arith, untouched L b (receive j from m) a (log_length i) l refl)
   log_grows (delivers {i = j} {m}) a i l =
-      go (eqb j i) refl (word_after L b (deliver j m) a (logLength i) l)
+      go (eqb j i) refl (word_after L b (deliver j m) a (log_length i) l)
     where
       go : (t : Bool) → eqb j i ≡ t
-          → words L (after L b (deliver j m)) (logLength i)
-          ≡ cond (t && true) (words L b (logLength j) + 1) (words L b (logLength i))
-          → words L b (logLength i) ≤ words L (after L b (deliver j m)) (logLength i)
-      go true e q = omega (arith, q, ap (λ k. words L b (logLength k)) (eqb-true j i e))
+          → words L (after L b (deliver j m)) (log_length i)
+          ≡ cond (t && true) (words L b (log_length j) + 1) (words L b (log_length i))
+          → words L b (log_length i) ≤ words L (after L b (deliver j m)) (log_length i)
+      go true e q = omega (arith, q, ap (λ k. words L b (log_length k)) (eqb-true j i e))
       go false e q = omega (arith, q)
-  log_grows (detects {i = j} {j = k}) a i l = omega (arith, untouched L b (detect j k) a (logLength i) l refl)
+  log_grows (detects {i = j} {j = k}) a i l = omega (arith, untouched L b (detect j k) a (log_length i) l refl)
 
   roomy_before : {e : Step} → SettlingKind e → Allowed L b e → (a : Step) → Allowed L (after L b e) a → Roomy L b a
   roomy_before k o (broadcast who s v) a = tt
@@ -76,7 +76,7 @@ module _ (L : Layout) (b : List ℕ) where
   roomy_before k o (receive i from m) a = tt
   roomy_before {e} k o (deliver i m) a =
       let g = deliver_granted L (words L (after L b e)) a.free in
-      let h : words L (after L b e) (logLength i) < words L (after L b e) count = ltb-true _ _ g.room in
+      let h : words L (after L b e) (log_length i) < words L (after L b e) count = ltb-true _ _ g.room in
       let l = controller_below L (after L b e) a.sound i g.due.there in
       omega (arith, h, log_grows k o i l, count_stays k o)
   roomy_before k o (crash who) a = tt

@@ -10,7 +10,7 @@ use lib.Dec.{eqb, leb}
 use lib.ListN.{length, take, drop}
 use borrow.Author.Tests.{eqb-true}
 use Rattle.sets.proofs.Tests.{both}
-use Rattle.bank.specs.Place.{logLength, log, message, stamp, value}
+use Rattle.bank.specs.Place.{log_length, log, message, stamp, value}
 use Rattle.bank.specs.Layout.{Layout, size, address, words, up_from}
 use Rattle.bank.specs.Fit.{Fit}
 use Rattle.bank.specs.Opening.{opened, open_refusal, open_of}
@@ -126,7 +126,7 @@ module _ (L : Layout) (b c : List ℕ) (e : SameBelow L b c) where
   used_same who =
       choose_alike (◌≡◌) (ap (λ r. eqb r 0) (ask_alike who))
       (λ z. let x = log-asked L b who (eqb-true _ 0 z) in
-      e.numbers (logLength who) (omega (arith, x.there, x.sound.few)) refl)
+      e.numbers (log_length who) (omega (arith, x.there, x.sound.few)) refl)
       refl
 
   log_same : (who : ℕ) → log_of L b who ≡ log_of L c who
@@ -138,9 +138,9 @@ module _ (L : Layout) (b c : List ℕ) (e : SameBelow L b c) where
           let y = log-asked L c who (sym (ask_alike who) ∙ eqb-true _ 0 z) in
           let here : who < L.controllers = omega (arith, x.there, x.sound.few) in
           log-entries L b x.sound who x.there
-          ∙ map_same _ _ (words L b (logLength who)) 0
+          ∙ map_same _ _ (words L b (log_length who)) 0
           (λ k l. e.numbers (log who k) (here, omega (arith, x.short, x.sound.given)) refl)
-          ∙ ap (λ n. map (λ k. words L c (log who k)) (up_from 0 n)) (e.numbers (logLength who) here refl)
+          ∙ ap (λ n. map (λ k. words L c (log who k)) (up_from 0 n)) (e.numbers (log_length who) here refl)
           ∙ sym (log-entries L c y.sound who y.there)
       go false z =
           ap (λ n. take n (drop (address L (log who 0)) b)) (stop _ z refl)

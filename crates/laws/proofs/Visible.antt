@@ -9,7 +9,7 @@ use lib.ListN.{get_or}
 use borrow.Author.Tests.{lt-ltb, ltb-true}
 use Rattle.sets.proofs.Tests.{both}
 use Rattle.bank.specs.Place.{Field, Place, Words, record_of, Write, ◌≔◌, held, delivered, acked, unsent, in_flight, N}
-use Rattle.bank.specs.Place.{mode, count, up, view, logLength, log, message}
+use Rattle.bank.specs.Place.{mode, count, up, view, log_length, log, message}
 use Rattle.bank.specs.Layout.{Layout, record_widths, words, in_record, region_in, index, PlaceIn, FieldIn}
 use Rattle.refusals.specs.Step.{Step, broadcast, send, receive, deliver, crash, detect, lose}
 use Rattle.group.specs.Writes.{fresh_record, writes}
@@ -52,7 +52,7 @@ module _ (L : Layout) where
   in_key count h = refl
   in_key up h = refl
   in_key (view i) h = both_below i _ 0 1 h (omega arith)
-  in_key (logLength i) h = both_below i _ 0 1 h (omega arith)
+  in_key (log_length i) h = both_below i _ 0 1 h (omega arith)
   in_key (log i k) h = both_below k _ i _ h.1 h.0
   in_key (message m f) h = both_below (index f) _ m _ h.1 h.0
 
@@ -62,7 +62,7 @@ module _ (L : Layout) where
   PlaceIn-key_in count h = tt
   PlaceIn-key_in up h = tt
   PlaceIn-key_in (view i) h = ltb-true _ _ (both _ _ h).0
-  PlaceIn-key_in (logLength i) h = ltb-true _ _ (both _ _ h).0
+  PlaceIn-key_in (log_length i) h = ltb-true _ _ (both _ _ h).0
   PlaceIn-key_in (log i k) h = let z = both _ _ h in (ltb-true _ _ z.1, ltb-true _ _ z.0)
   PlaceIn-key_in (message m f) h = let z = both _ _ h in (ltb-true _ _ z.1, ltb-true _ _ z.0)
 
@@ -162,7 +162,7 @@ module _ (L : Layout) where
       sym
       (rw (
         seen_in (words L b) (message m delivered) (k, omega arith),
-        seen_in (words L b) (logLength i) j,
+        seen_in (words L b) (log_length i) j,
       )
       refl)
   seen-writes b (crash who) a = sym (rw (seen_in (words L b) up tt) refl)

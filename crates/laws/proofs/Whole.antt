@@ -8,7 +8,7 @@ use Prim.Native.Nat.{ℕ, zero, suc, ◌+◌, ◌≤◌, ◌<◌}
 use native.Mathlib.Nat.{eq-or-lt_of_le}
 use native.Mathlib.Omega.{arith}
 use borrow.Author.Tests.{eq-eqb}
-use Rattle.bank.specs.Place.{Field, Place, Write, ◌≔◌, N, mode, count, up, view, logLength, log, message, sender, stamp}
+use Rattle.bank.specs.Place.{Field, Place, Write, ◌≔◌, N, mode, count, up, view, log_length, log, message, sender, stamp}
 use Rattle.bank.specs.Place.{value, held, delivered, acked, unsent, in_flight}
 use Rattle.bank.specs.Layout.{Layout, up_from, fields, in_record, FieldIn, region_in, index}
 use Rattle.bank.proofs.Places.{same_place}
@@ -22,7 +22,7 @@ field_of mode = sender
 field_of count = sender
 field_of up = sender
 field_of (view i) = sender
-field_of (logLength i) = sender
+field_of (log_length i) = sender
 field_of (log i k) = sender
 field_of (message m f) = f
 

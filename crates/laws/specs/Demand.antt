@@ -1,7 +1,7 @@
 -- What demand 3 speaks of: a group that was opened, any accepted steps, then settling steps until none is left.
 use Rattle.std.specs.Prelude.{ℕ, ◌*◌, ◌≤◌, ◌<◌, ◌≡◌, true, ◌⊎◌, List, length}
 use Rattle.sets.specs.Set.{count_below}
-use Rattle.bank.specs.Place.{Place, N, mode, up, logLength, log}
+use Rattle.bank.specs.Place.{Place, N, mode, up, log_length, log}
 use Rattle.bank.specs.Layout.{Layout, size, words, PlaceIn}
 use Rattle.bank.specs.Fit.{is_size, is_mode, all_ack}
 use Rattle.bank.specs.Opening.{opened}
@@ -30,7 +30,7 @@ pub record Alike (L : Layout) (x y : List ℕ) : Type 0 where
   pub long : length x ≡ length y
   pub outside : (p : Place) → PlaceIn L p → ((i k : ℕ) → p ≡ log i k → ⊥) → words L x p ≡ words L y p
   pub logs : (i m : ℕ) → i < words L x N → occurs m (log_of L x i) ≡ occurs m (log_of L y i)
-  pub past : (i k : ℕ) → PlaceIn L (log i k) → words L x (logLength i) ≤ k → words L x (log i k) ≡ words L y (log i k)
+  pub past : (i k : ℕ) → PlaceIn L (log i k) → words L x (log_length i) ≤ k → words L x (log i k) ≡ words L y (log i k)
   pub absent : (i k : ℕ) → PlaceIn L (log i k) → words L x N ≤ i → words L x (log i k) ≡ words L y (log i k)
 
 -- nothing but that order: each log has the same entries, each as often, and where they are in the same order too the
@@ -38,7 +38,7 @@ pub record Alike (L : Layout) (x y : List ℕ) : Type 0 where
 pub record OnlyOrder (L : Layout) (x y : List ℕ) : Type 0 where
   pub entries : (i m : ℕ) → i < words L x N → occurs m (log_of L x i) ≡ occurs m (log_of L y i)
   pub one-bank : length x ≡ size L
-      → ((i k : ℕ) → PlaceIn L (log i k) → i < words L x N → k < words L x (logLength i)
+      → ((i k : ℕ) → PlaceIn L (log i k) → i < words L x N → k < words L x (log_length i)
       → words L x (log i k) ≡ words L y (log i k))
       → x ≡ y
 

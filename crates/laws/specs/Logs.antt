@@ -1,7 +1,7 @@
 -- What is right about the logs of a bank: each holds the messages delivered there, once each, and nothing else.
 use Rattle.std.specs.Prelude.{ℕ, ◌+◌, ◌<◌, ◌≡◌, cond, List, [], ◌∷◌, eqb}
 use Rattle.sets.specs.Set.{how_many}
-use Rattle.bank.specs.Place.{N, count, logLength}
+use Rattle.bank.specs.Place.{N, count, log_length}
 use Rattle.bank.specs.Layout.{Layout, words}
 use Rattle.refusals.specs.State.{has_delivered}
 use Rattle.lists.specs.Logs.{log_of}
@@ -20,4 +20,4 @@ pub record LogsRight (L : Layout) (b : List ℕ) : Type 0 where
       → occurs m (log_of L b i) ≡ cond (has_delivered (words L b) i m) 1 0
   -- its log is as long as messages were delivered there
   pub lengths : (i : ℕ) → i < words L b N
-      → words L b (logLength i) ≡ how_many (has_delivered (words L b) i) (words L b count)
+      → words L b (log_length i) ≡ how_many (has_delivered (words L b) i) (words L b count)

@@ -6,7 +6,7 @@ use Prim.Native.Nat.{ℕ, ◌≤◌, ◌<◌}
 use native.Mathlib.Omega.{arith}
 use borrow.Author.Tests.{eq-eqb, ne_eqb, ltb-true, leb-true}
 use Rattle.sets.proofs.Counts.{every-at}
-use Rattle.bank.specs.Place.{N, count, logLength}
+use Rattle.bank.specs.Place.{N, count, log_length}
 use Rattle.bank.specs.Layout.{Layout, words}
 use Rattle.bank.specs.Fit.{Fit, fit, log_fits}
 use Rattle.refusals.specs.State.{is_controller}
@@ -28,14 +28,14 @@ module _ (L : Layout) (b : List ℕ) (who : ℕ) where
   pub no_length : (r : ℕ) → log_refusal L b who ≡ r → (r ≡ 0 → ⊥) → used_length L b who ≡ 0
   no_length r e z = stop _ (ne_eqb _ _ (λ q. z (sym e ∙ q))) refl
 
-  pub whole_length : log_refusal L b who ≡ 0 → used_length L b who ≡ words L b (logLength who)
+  pub whole_length : log_refusal L b who ≡ 0 → used_length L b who ≡ words L b (log_length who)
   whole_length e = pass _ (eq-eqb _ _ e) refl
 
   -- what a question that is not refused knows
   pub record Known : Type 0 where
     pub sound : Fit L b
     pub there : who < words L b N
-    pub short : words L b (logLength who) ≤ words L b count
+    pub short : words L b (log_length who) ≤ words L b count
 
   pub log-asked : log_refusal L b who ≡ 0 → Known
   log-asked e = go (fit L b) refl (is_controller (words L b) who) refl

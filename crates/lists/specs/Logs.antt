@@ -1,6 +1,6 @@
 -- Questions about a log: how long it is, and its used part.
 use Rattle.std.specs.Prelude.{ℕ, ◌≡◌, cond, List, [], ◌∷◌, eqb, take, drop}
-use Rattle.bank.specs.Place.{logLength, log}
+use Rattle.bank.specs.Place.{log_length, log}
 use Rattle.bank.specs.Layout.{Layout, address, words}
 use Rattle.bank.specs.Fit.{fit}
 use Rattle.bank.specs.Rules.{◌else◌, first_broken}
@@ -10,7 +10,7 @@ abbrev pub log_refusal : Layout → List ℕ → ℕ → ℕ
 log_refusal L b who = first_broken (fit L b else 1 ∷ is_controller (words L b) who else 3 ∷ [])
 
 abbrev pub used_length : Layout → List ℕ → ℕ → ℕ
-used_length L b who = cond (eqb (log_refusal L b who) 0) (words L b (logLength who)) 0
+used_length L b who = cond (eqb (log_refusal L b who) 0) (words L b (log_length who)) 0
 
 -- the used part: empty where the question is refused
 abbrev pub log_of : Layout → List ℕ → ℕ → List ℕ

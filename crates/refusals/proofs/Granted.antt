@@ -5,7 +5,7 @@ use mathlib.Core.Bool.{true, not, ◌&&◌}
 use Prim.Native.Nat.{ℕ}
 use lib.Dec.{eqb, ltb}
 use lib.ListN.{take}
-use Rattle.bank.specs.Place.{Words, mode, count, logLength}
+use Rattle.bank.specs.Place.{Words, mode, count, log_length}
 use Rattle.bank.specs.Layout.{Layout}
 use Rattle.bank.specs.Fit.{all_ack}
 use Rattle.bank.specs.Rules.{Holds}
@@ -46,7 +46,7 @@ pub record Due (w : Words) (i m : ℕ) : Type 0 where
 
 pub record Delivers (w : Words) (i m : ℕ) : Type 0 where
   pub due : Due w i m
-  pub room : ltb (w (logLength i)) (w count) ≡ true
+  pub room : ltb (w (log_length i)) (w count) ≡ true
 
 pub record Crashes (w : Words) (who : ℕ) : Type 0 where
   pub there : is_controller w who ≡ true

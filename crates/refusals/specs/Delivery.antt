@@ -1,7 +1,7 @@
 -- Delivery: the test of each mode, and what refuses a delivery. Step and settler both go by it.
 use Rattle.std.specs.Prelude.{ℕ, ◌*◌, Bool, cond, not, List, [], ◌∷◌, eqb, ltb}
 use Rattle.sets.specs.Set.{within, count_below}
-use Rattle.bank.specs.Place.{Words, N, mode, count, view, logLength, message, acked}
+use Rattle.bank.specs.Place.{Words, N, mode, count, view, log_length, message, acked}
 use Rattle.bank.specs.Fit.{all_ack}
 use Rattle.bank.specs.Rules.{Rule, ◌else◌}
 use Rattle.refusals.specs.State.{is_controller, is_message, is_up, holding, has_delivered}
@@ -23,5 +23,5 @@ deliver_rules w i m =
     ∷ holding w i m else 8
     ∷ may_deliver w i m else 9
     ∷ not (has_delivered w i m) else 10
-    ∷ ltb (w (logLength i)) (w count) else 1
+    ∷ ltb (w (log_length i)) (w count) else 1
     ∷ []

@@ -10,7 +10,7 @@ use lib.Dec.{eqb}
 use lib.ListN.{length, get_or, take, drop, length-take}
 use lib.Seq.{take-suc}
 use borrow.Author.Tests.{eqb-true}
-use Rattle.bank.specs.Place.{logLength, log}
+use Rattle.bank.specs.Place.{log_length, log}
 use Rattle.bank.specs.Layout.{paper, address, words, up_from}
 use Rattle.lists.specs.Logs.{log_refusal, used_length, log_of}
 use Rattle.lists.proofs.Asking.{log-asked}
@@ -78,6 +78,6 @@ short_log b who =
       short (eqb (log_refusal paper b who) 0) refl,
     )
   where
-    short : (t : Bool) → eqb (log_refusal paper b who) 0 ≡ t → cond t (words paper b (logLength who)) 0 ≤ 32
+    short : (t : Bool) → eqb (log_refusal paper b who) 0 ≡ t → cond t (words paper b (log_length who)) 0 ≤ 32
     short true e = let a = log-asked paper b who (eqb-true _ _ e) in omega (arith, a.short, a.sound.given)
     short false e = omega arith

@@ -9,35 +9,35 @@ use Rattle.group.proofs.one_step.step_in.Statement.{statement}
 use Rattle.group.proofs.one_step.step_in.Tie as tie
 
 -- where the bank is given back, with the step taken: where nothing refused it
-abbrev free : tie.After-slice-known2 → tie.Else1
+abbrev free : tie.After-slice_known-2-1 → tie.Else-r-ne-DONE
 free c = c.before.before.before.before
 
-refusal-in-requires : tie.Need-refusal-in-requires
-refusal-in-requires c κs = search rules
+refusal_in-r-requires : tie.Need-refusal_in-r-requires
+refusal_in-r-requires c κs = search rules
 
-same_length : tie.Need-same-length
-same_length c = search rules
+shape_of-bank-then-r-ne-DONE : tie.Need-shape_of-bank-then-r-ne-DONE
+shape_of-bank-then-r-ne-DONE c = search rules
 
-returns : tie.Need-returns
+returns-then-r-ne-DONE : tie.Need-returns-then-r-ne-DONE
 unfolding step_of
-returns c =
-    let e = c.before.refusal-in.ensures in
-    ap₂ answer e (sym (stop _ (ne_eqb _ _ (λ z. c.if1.true (e ∙ z))) refl))
+returns-then-r-ne-DONE c =
+    let e = c.before.refusal_in-r.ensures in
+    ap₂ answer e (sym (stop _ (ne_eqb _ _ (λ z. c.if-r-ne-DONE.true (e ∙ z))) refl))
 
 apply-requires : tie.Need-apply-requires
 apply-requires c κs = search rules
 
-same-length-2 : tie.Need-same-length-2
-same-length-2 c = search rules
+shape_of-bank : tie.Need-shape_of-bank
+shape_of-bank c = search rules
 
-returns-2 : tie.Need-returns-2
+returns : tie.Need-returns
 unfolding step_of
-returns-2 c =
+returns c =
     let a = free c in
-    let e = sym a.before.refusal-in.ensures ∙ a.if1.left in
+    let e = sym a.before.refusal_in-r.ensures ∙ a.if-r-ne-DONE.false in
     ap₂ answer (sym e) (c.before.before.apply.ensures ∙ sym (pass _ (eq-eqb _ _ e) refl))
 
 pub step_in_spec : {M : Type 1} → statement M
 step_in_spec =
     tie.close
-    (tie.spec refusal-in-requires same_length returns apply-requires same-length-2 returns-2)
+    (tie.spec refusal_in-r-requires shape_of-bank-then-r-ne-DONE returns-then-r-ne-DONE apply-requires shape_of-bank returns)

@@ -11,24 +11,24 @@ use Rattle.group.proofs.record.deliver.Tie as tie
 abbrev start : tie.After-join → tie.Start
 start c = c.before.before.before
 
-slice-read-join : tie.Need-slice-read-join
-slice-read-join c = search rules
+bounds-record-4 : tie.Need-bounds-record-4
+bounds-record-4 c = search rules
 
 join-requires : tie.Need-join-requires
 join-requires c κs = search rules
 
-slice-write-record : tie.Need-slice-write-record
-slice-write-record c = search rules
+bounds-record-4-2 : tie.Need-bounds-record-4-2
+bounds-record-4-2 c = search rules
 
-same_length : tie.Need-same-length
-same_length c = search rules
+shape_of-record : tie.Need-shape_of-record
+shape_of-record c = search rules
 
 returns : tie.Need-returns
 returns c =
     let s = start c in
-    let h : s.args.i < 16 = omega (arith, s.pre.1, few s.args.room) in
+    let h : s.args.i < 16 = omega (arith, s.requires.1, few s.args.room) in
     rw (c.join.ensures, join-with _ _ h)
 
 pub deliver_spec : {M : Type 1} → statement M
 deliver_spec =
-    tie.close (tie.spec slice-read-join join-requires slice-write-record same_length returns)
+    tie.close (tie.spec bounds-record-4 join-requires bounds-record-4-2 shape_of-record returns)

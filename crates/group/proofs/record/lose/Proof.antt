@@ -3,39 +3,39 @@ use borrow.Author.Rules.{rules}
 use Rattle.group.proofs.record.lose.Statement.{statement}
 use Rattle.group.proofs.record.lose.Tie as tie
 
-flight-at-requires : tie.Need-flight-at-requires
-flight-at-requires c κs = search rules
+flight_at-f-requires : tie.Need-flight_at-f-requires
+flight_at-f-requires c κs = search rules
 
-mul-without : tie.Need-overflow-mul-without
-mul-without c = search rules
+offset_bounds-record-f : tie.Need-offset_bounds-record-f
+offset_bounds-record-f c = search rules
 
-slice-read-without : tie.Need-slice-read-without
-slice-read-without c = search rules
+bounds-record-f : tie.Need-bounds-record-f
+bounds-record-f c = search rules
 
 without-requires : tie.Need-without-requires
 without-requires c κs = search rules
 
-mul-record : tie.Need-overflow-mul-record
-mul-record c = search rules
+offset_bounds-record-f-2 : tie.Need-offset_bounds-record-f-2
+offset_bounds-record-f-2 c = search rules
 
-slice-write-record : tie.Need-slice-write-record
-slice-write-record c = search rules
+bounds-record-f-2 : tie.Need-bounds-record-f-2
+bounds-record-f-2 c = search rules
 
-same_length : tie.Need-same-length
-same_length c = search rules
+shape_of-record : tie.Need-shape_of-record
+shape_of-record c = search rules
 
 returns : tie.Need-returns
-returns c = rw (c.without.ensures, c.before.before.flight-at.ensures)
+returns c = rw (c.without.ensures, c.before.before.flight_at-f.ensures)
 
 pub lose_spec : {M : Type 1} → statement M
 lose_spec =
     tie.close
     (tie.spec
-    flight-at-requires
-    mul-without
-    slice-read-without
+    flight_at-f-requires
+    offset_bounds-record-f
+    bounds-record-f
     without-requires
-    mul-record
-    slice-write-record
-    same_length
+    offset_bounds-record-f-2
+    bounds-record-f-2
+    shape_of-record
     returns)

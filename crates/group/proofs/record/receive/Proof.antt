@@ -9,74 +9,74 @@ use Rattle.group.proofs.record.receive.Statement.{statement}
 use Rattle.group.proofs.record.receive.Tie as tie
 
 -- where the receiver has joined the holders: the function's beginning
-abbrev start : tie.After-join2 → tie.Start
+abbrev start : tie.After-join-2 → tie.Start
 start c = c.before.before.before.before.before.before.before.before.before.before.before
 
-flight-at-requires : tie.Need-flight-at-requires
-flight-at-requires c κs = search rules
+flight_at-f-requires : tie.Need-flight_at-f-requires
+flight_at-f-requires c κs = search rules
 
-acked-at-requires : tie.Need-acked-at-requires
-acked-at-requires c κs = search rules
+acked_at-a-requires : tie.Need-acked_at-a-requires
+acked_at-a-requires c κs = search rules
 
-unsent-at-requires : tie.Need-unsent-at-requires
-unsent-at-requires c κs = search rules
+unsent_at-u-requires : tie.Need-unsent_at-u-requires
+unsent_at-u-requires c κs = search rules
 
-mul-in-flight : tie.Need-overflow-mul-in-flight
-mul-in-flight c = search rules
+offset_bounds-record-f : tie.Need-offset_bounds-record-f
+offset_bounds-record-f c = search rules
 
-slice-read-in-flight : tie.Need-slice-read-in-flight
-slice-read-in-flight c = search rules
+bounds-record-f : tie.Need-bounds-record-f
+bounds-record-f c = search rules
 
-mul-acked : tie.Need-overflow-mul-acked
-mul-acked c = search rules
+offset_bounds-record-a : tie.Need-offset_bounds-record-a
+offset_bounds-record-a c = search rules
 
-slice-read-acked : tie.Need-slice-read-acked
-slice-read-acked c = search rules
+bounds-record-a : tie.Need-bounds-record-a
+bounds-record-a c = search rules
 
-slice-read-held : tie.Need-slice-read-held
-slice-read-held c = search rules
+bounds-record-3 : tie.Need-bounds-record-3
+bounds-record-3 c = search rules
 
-mul-unsent : tie.Need-overflow-mul-unsent
-mul-unsent c = search rules
+offset_bounds-record-u : tie.Need-offset_bounds-record-u
+offset_bounds-record-u c = search rules
 
-slice-read-unsent : tie.Need-slice-read-unsent
-slice-read-unsent c = search rules
+bounds-record-u : tie.Need-bounds-record-u
+bounds-record-u c = search rules
 
 without-requires : tie.Need-without-requires
 without-requires c κs = search rules
 
-mul-record : tie.Need-overflow-mul-record
-mul-record c = search rules
+offset_bounds-record-f-2 : tie.Need-offset_bounds-record-f-2
+offset_bounds-record-f-2 c = search rules
 
-slice-write-record : tie.Need-slice-write-record
-slice-write-record c = search rules
+bounds-record-f-2 : tie.Need-bounds-record-f-2
+bounds-record-f-2 c = search rules
 
 join-requires : tie.Need-join-requires
 join-requires c κs = search rules
 
-mul-record-2 : tie.Need-overflow-mul-record-2
-mul-record-2 c = search rules
+offset_bounds-record-a-2 : tie.Need-offset_bounds-record-a-2
+offset_bounds-record-a-2 c = search rules
 
-slice-write-record-2 : tie.Need-slice-write-record-2
-slice-write-record-2 c = simp length-set (omega arith)
+bounds-record-a-2 : tie.Need-bounds-record-a-2
+bounds-record-a-2 c = simp length-set (omega arith)
 
 join-requires-2 : tie.Need-join-requires-2
 join-requires-2 c κs = search rules
 
-slice-write-record-3 : tie.Need-slice-write-record-3
-slice-write-record-3 c = simp length-set (omega arith)
+bounds-record-3-2 : tie.Need-bounds-record-3-2
+bounds-record-3-2 c = simp length-set (omega arith)
 
 relay-requires : tie.Need-relay-requires
 relay-requires c κs = omega (arith, few (start c).args.room)
 
-mul-record-3 : tie.Need-overflow-mul-record-3
-mul-record-3 c = search rules
+offset_bounds-record-u-2 : tie.Need-offset_bounds-record-u-2
+offset_bounds-record-u-2 c = search rules
 
-slice-write-record-4 : tie.Need-slice-write-record-4
-slice-write-record-4 c = simp length-set (omega arith)
+bounds-record-u-2 : tie.Need-bounds-record-u-2
+bounds-record-u-2 c = simp length-set (omega arith)
 
-same_length : tie.Need-same-length
-same_length c = search rules
+shape_of-record : tie.Need-shape_of-record
+shape_of-record c = search rules
 
 -- back from there: the copy was taken out of flight, held was read, the copies in flight were read, and before that the
 -- three places known (`rw` does not look through a station)
@@ -93,11 +93,11 @@ returns c =
     rw (
       taken_out.without.ensures,
       joined.before.join.ensures,
-      joined.join2.ensures,
+      joined.join-2.ensures,
       c.relay.ensures,
-      placed.unsent-at.ensures,
-      placed.before.acked-at.ensures,
-      placed.before.before.flight-at.ensures,
+      placed.unsent_at-u.ensures,
+      placed.before.acked_at-a.ensures,
+      placed.before.before.flight_at-f.ensures,
       join-with _ _ i,
       join-with _ _ f,
     )
@@ -106,26 +106,26 @@ pub receive_spec : {M : Type 1} → statement M
 receive_spec =
     tie.close
     (tie.spec
-    flight-at-requires
-    acked-at-requires
-    unsent-at-requires
-    mul-in-flight
-    slice-read-in-flight
-    mul-acked
-    slice-read-acked
-    slice-read-held
-    mul-unsent
-    slice-read-unsent
+    flight_at-f-requires
+    acked_at-a-requires
+    unsent_at-u-requires
+    offset_bounds-record-f
+    bounds-record-f
+    offset_bounds-record-a
+    bounds-record-a
+    bounds-record-3
+    offset_bounds-record-u
+    bounds-record-u
     without-requires
-    mul-record
-    slice-write-record
+    offset_bounds-record-f-2
+    bounds-record-f-2
     join-requires
-    mul-record-2
-    slice-write-record-2
+    offset_bounds-record-a-2
+    bounds-record-a-2
     join-requires-2
-    slice-write-record-3
+    bounds-record-3-2
     relay-requires
-    mul-record-3
-    slice-write-record-4
-    same_length
+    offset_bounds-record-u-2
+    bounds-record-u-2
+    shape_of-record
     returns)

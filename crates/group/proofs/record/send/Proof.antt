@@ -12,44 +12,44 @@ use Rattle.group.proofs.record.send.Tie as tie
 abbrev start : tie.After-join → tie.Start
 start c = c.before.before.before.before.before.before.before
 
-unsent-at-requires : tie.Need-unsent-at-requires
-unsent-at-requires c κs = search rules
+unsent_at-u-requires : tie.Need-unsent_at-u-requires
+unsent_at-u-requires c κs = search rules
 
-flight-at-requires : tie.Need-flight-at-requires
-flight-at-requires c κs = search rules
+flight_at-f-requires : tie.Need-flight_at-f-requires
+flight_at-f-requires c κs = search rules
 
-mul-unsent : tie.Need-overflow-mul-unsent
-mul-unsent c = search rules
+offset_bounds-record-u : tie.Need-offset_bounds-record-u
+offset_bounds-record-u c = search rules
 
-slice-read-unsent : tie.Need-slice-read-unsent
-slice-read-unsent c = search rules
+bounds-record-u : tie.Need-bounds-record-u
+bounds-record-u c = search rules
 
-mul-in-flight : tie.Need-overflow-mul-in-flight
-mul-in-flight c = search rules
+offset_bounds-record-f : tie.Need-offset_bounds-record-f
+offset_bounds-record-f c = search rules
 
-slice-read-in-flight : tie.Need-slice-read-in-flight
-slice-read-in-flight c = search rules
+bounds-record-f : tie.Need-bounds-record-f
+bounds-record-f c = search rules
 
 without-requires : tie.Need-without-requires
 without-requires c κs = search rules
 
-mul-record : tie.Need-overflow-mul-record
-mul-record c = search rules
+offset_bounds-record-u-2 : tie.Need-offset_bounds-record-u-2
+offset_bounds-record-u-2 c = search rules
 
-slice-write-record : tie.Need-slice-write-record
-slice-write-record c = search rules
+bounds-record-u-2 : tie.Need-bounds-record-u-2
+bounds-record-u-2 c = search rules
 
 join-requires : tie.Need-join-requires
 join-requires c κs = search rules
 
-mul-record-2 : tie.Need-overflow-mul-record-2
-mul-record-2 c = search rules
+offset_bounds-record-f-2 : tie.Need-offset_bounds-record-f-2
+offset_bounds-record-f-2 c = search rules
 
-slice-write-record-2 : tie.Need-slice-write-record-2
-slice-write-record-2 c = simp length-set (omega arith)
+bounds-record-f-2 : tie.Need-bounds-record-f-2
+bounds-record-f-2 c = simp length-set (omega arith)
 
-same_length : tie.Need-same-length
-same_length c = search rules
+shape_of-record : tie.Need-shape_of-record
+shape_of-record c = search rules
 
 -- back from there: both words were read, and before that both places known (`rw` does not look through a station)
 returns : tie.Need-returns
@@ -61,8 +61,8 @@ returns c =
     rw (
       c.before.without.ensures,
       c.join.ensures,
-      placed.before.unsent-at.ensures,
-      placed.flight-at.ensures,
+      placed.before.unsent_at-u.ensures,
+      placed.flight_at-f.ensures,
       join-with _ _ h,
     )
 
@@ -70,17 +70,17 @@ pub send_spec : {M : Type 1} → statement M
 send_spec =
     tie.close
     (tie.spec
-    unsent-at-requires
-    flight-at-requires
-    mul-unsent
-    slice-read-unsent
-    mul-in-flight
-    slice-read-in-flight
+    unsent_at-u-requires
+    flight_at-f-requires
+    offset_bounds-record-u
+    bounds-record-u
+    offset_bounds-record-f
+    bounds-record-f
     without-requires
-    mul-record
-    slice-write-record
+    offset_bounds-record-u-2
+    bounds-record-u-2
     join-requires
-    mul-record-2
-    slice-write-record-2
-    same_length
+    offset_bounds-record-f-2
+    bounds-record-f-2
+    shape_of-record
     returns)

@@ -18,41 +18,41 @@ abbrev start : tie.After-clear → tie.Start
 start c = c.before.before.before
 
 -- where the last word's place is known: where the record was all zeros
-abbrev cleared : tie.After-unsent-at → tie.After-clear
+abbrev cleared : tie.After-unsent_at → tie.After-clear
 cleared c = c.before.before.before.before.before
 
 clear-requires : tie.Need-clear-requires
 clear-requires c κs = search rules
 
-slice-write-record : tie.Need-slice-write-record
-slice-write-record c = search rules
+bounds-record-0 : tie.Need-bounds-record-0
+bounds-record-0 c = search rules
 
-slice-write-record-2 : tie.Need-slice-write-record-2
-slice-write-record-2 c = simp length-set (omega arith)
+bounds-record-1 : tie.Need-bounds-record-1
+bounds-record-1 c = simp length-set (omega arith)
 
-slice-write-record-3 : tie.Need-slice-write-record-3
-slice-write-record-3 c = simp length-set (omega arith)
+bounds-record-2 : tie.Need-bounds-record-2
+bounds-record-2 c = simp length-set (omega arith)
 
 join-requires : tie.Need-join-requires
 join-requires c κs = search rules
 
-slice-write-record-4 : tie.Need-slice-write-record-4
-slice-write-record-4 c = simp length-set (omega arith)
+bounds-record-3 : tie.Need-bounds-record-3
+bounds-record-3 c = simp length-set (omega arith)
 
-all-below-requires : tie.Need-all-below-requires
-all-below-requires c κs = search rules
+all_below-requires : tie.Need-all_below-requires
+all_below-requires c κs = search rules
 
-unsent-at-requires : tie.Need-unsent-at-requires
-unsent-at-requires c κs = search rules
+unsent_at-requires : tie.Need-unsent_at-requires
+unsent_at-requires c κs = search rules
 
-mul-record : tie.Need-overflow-mul-record
-mul-record c = search rules
+offset_bounds-record-unsent_at : tie.Need-offset_bounds-record-unsent_at
+offset_bounds-record-unsent_at c = search rules
 
-slice-write-record-5 : tie.Need-slice-write-record-5
-slice-write-record-5 c = simp length-set (omega arith)
+bounds-record-unsent_at : tie.Need-bounds-record-unsent_at
+bounds-record-unsent_at c = simp length-set (omega arith)
 
-same_length : tie.Need-same-length
-same_length c = search rules
+shape_of-record : tie.Need-shape_of-record
+shape_of-record c = search rules
 
 returns : tie.Need-returns
 returns c =
@@ -65,28 +65,28 @@ returns c =
     rw (
       (cleared c).clear.ensures,
       c.before.before.join.ensures,
-      c.before.all-below.ensures,
-      c.unsent-at.ensures,
+      c.before.all_below.ensures,
+      c.unsent_at.ensures,
       join-with 0 who h,
       all,
-      s.pre.0,
+      s.requires.0,
     )
-    (five_words L n who s.args.s s.args.v s.pre.1
-    ∙ sym (whole_record L (fresh n who s.args.s s.args.v) s.args.«record».now s.pre.0))
+    (five_words L n who s.args.s s.args.v s.requires.1
+    ∙ sym (whole_record L (fresh n who s.args.s s.args.v) s.args.«record».now s.requires.0))
 
 pub write_fresh_spec : {M : Type 1} → statement M
 write_fresh_spec =
     tie.close
     (tie.spec
     clear-requires
-    slice-write-record
-    slice-write-record-2
-    slice-write-record-3
+    bounds-record-0
+    bounds-record-1
+    bounds-record-2
     join-requires
-    slice-write-record-4
-    all-below-requires
-    unsent-at-requires
-    mul-record
-    slice-write-record-5
-    same_length
+    bounds-record-3
+    all_below-requires
+    unsent_at-requires
+    offset_bounds-record-unsent_at
+    bounds-record-unsent_at
+    shape_of-record
     returns)

@@ -14,49 +14,49 @@ use Rattle.group.proofs.steps.apply.Statement.{statement}
 use Rattle.group.proofs.steps.apply.Tie as tie
 
 -- at the match: the four numbers, and that they ask for a step
-abbrev numbers : tie.After-slice-known → Asked
+abbrev numbers : tie.After-slice_known-1 → Asked
 numbers c = let a = c.before.args in ask a.kind a.a a.b a.c
 
-abbrev Asks : tie.After-slice-known → Step → Type 0
+abbrev Asks : tie.After-slice_known-1 → Step → Type 0
 Asks c s = asked (numbers c) ≡ some s
 
-allowed : (c : tie.After-slice-known) (s : Step) → Asks c s → let a = c.before.args in
+allowed : (c : tie.After-slice_known-1) (s : Step) → Asks c s → let a = c.before.args in
     Allowed (layout a.room) a.bank.now s
 allowed c s e =
     let a = c.before.args in allowed_step (layout a.room) a.bank.now (numbers c) s c.before.requires e
 
 -- the kind's own step, and one with numbers that it does not use
-asks : (c : tie.After-slice-known) (k : ℕ) → c.before.args.kind ≡ k → let a = c.before.args in
+asks : (c : tie.After-slice_known-1) (k : ℕ) → c.before.args.kind ≡ k → let a = c.before.args in
     asked (numbers c) ≡ asked (ask k a.a a.b a.c)
 asks c k e = let a = c.before.args in ap (λ (k : ℕ). asked (ask k a.a a.b a.c)) e
 
-asks_unused : (c : tie.After-slice-known) (t : Bool) (s : Step) → asked (numbers c) ≡ unused t s → Asks c s
+asks_unused : (c : tie.After-slice_known-1) (t : Bool) (s : Step) → asked (numbers c) ≡ unused t s → Asks c s
 asks_unused c t s e =
     let a = c.before.args in asked-free (layout a.room) a.bank.now (numbers c) t s c.before.requires e
 
-is_deliver : (c : tie.At-match-keys4) → let a = c.before.before.args in Asks c.before (deliver a.a a.b)
+is_deliver : (c : tie.In-4) → let a = c.before.before.args in Asks c.before (deliver a.a a.b)
 is_deliver c =
-    let a = c.before.before.args in asks_unused c.before (eqb a.c 0) _ (asks c.before 4 c.match.keys4)
+    let a = c.before.before.args in asks_unused c.before (eqb a.c 0) _ (asks c.before 4 c.in-4.is)
 
-is_crash : (c : tie.At-match-keys5) → let a = c.before.before.args in Asks c.before (crash a.a)
+is_crash : (c : tie.In-5) → let a = c.before.before.args in Asks c.before (crash a.a)
 is_crash c =
     let a = c.before.before.args in
-    asks_unused c.before (eqb a.b 0 && eqb a.c 0) _ (asks c.before 5 c.match.keys5)
+    asks_unused c.before (eqb a.b 0 && eqb a.c 0) _ (asks c.before 5 c.in-5.is)
 
-is_detect : (c : tie.At-match-keys6) → let a = c.before.before.args in Asks c.before (detect a.a a.b)
+is_detect : (c : tie.In-6) → let a = c.before.before.args in Asks c.before (detect a.a a.b)
 is_detect c =
-    let a = c.before.before.args in asks_unused c.before (eqb a.c 0) _ (asks c.before 6 c.match.keys6)
+    let a = c.before.before.args in asks_unused c.before (eqb a.c 0) _ (asks c.before 6 c.in-6.is)
 
 -- ---- arm by arm: the step may be taken, and what it left is what was asked for
 
 broadcast-requires : tie.Need-broadcast-requires
-broadcast-requires c κs = let a = c.before in allowed a.before _ (asks a.before 1 a.match.keys1)
+broadcast-requires c κs = let a = c.before in allowed a.before _ (asks a.before 1 a.in-1.is)
 
 send-requires : tie.Need-send-requires
-send-requires c κs = let a = c.before in allowed a.before _ (asks a.before 2 a.match.keys2)
+send-requires c κs = let a = c.before in allowed a.before _ (asks a.before 2 a.in-2.is)
 
 receive-requires : tie.Need-receive-requires
-receive-requires c κs = let a = c.before in allowed a.before _ (asks a.before 3 a.match.keys3)
+receive-requires c κs = let a = c.before in allowed a.before _ (asks a.before 3 a.in-3.is)
 
 deliver-requires : tie.Need-deliver-requires
 deliver-requires c κs = allowed c.before.before _ (is_deliver c.before)
@@ -68,52 +68,52 @@ detect-requires : tie.Need-detect-requires
 detect-requires c κs = allowed c.before.before _ (is_detect c.before)
 
 lose-requires : tie.Need-lose-requires
-lose-requires c κs = let a = c.before in allowed a.before _ (asks a.before 7 a.match.keys7)
+lose-requires c κs = let a = c.before in allowed a.before _ (asks a.before 7 a.in-7.is)
 
-same_length : tie.Need-same-length
-same_length c = search rules
+shape_of-bank-in-1 : tie.Need-shape_of-bank-in-1
+shape_of-bank-in-1 c = search rules
 
-returns : tie.Need-returns
-returns c = let done = c.before.before in rw done.before.before.match.keys1 done.broadcast.ensures
+returns-in-1 : tie.Need-returns-in-1
+returns-in-1 c = let done = c.before.before in rw done.before.before.in-1.is done.broadcast.ensures
 
-same-length-2 : tie.Need-same-length-2
-same-length-2 c = search rules
+shape_of-bank-in-2 : tie.Need-shape_of-bank-in-2
+shape_of-bank-in-2 c = search rules
 
-returns-2 : tie.Need-returns-2
-returns-2 c = let done = c.before.before in rw done.before.before.match.keys2 done.send.ensures
+returns-in-2 : tie.Need-returns-in-2
+returns-in-2 c = let done = c.before.before in rw done.before.before.in-2.is done.send.ensures
 
-same-length-3 : tie.Need-same-length-3
-same-length-3 c = search rules
+shape_of-bank-in-3 : tie.Need-shape_of-bank-in-3
+shape_of-bank-in-3 c = search rules
 
-returns-3 : tie.Need-returns-3
-returns-3 c = let done = c.before.before in rw done.before.before.match.keys3 done.receive.ensures
+returns-in-3 : tie.Need-returns-in-3
+returns-in-3 c = let done = c.before.before in rw done.before.before.in-3.is done.receive.ensures
 
-same-length-4 : tie.Need-same-length-4
-same-length-4 c = search rules
+shape_of-bank-in-4 : tie.Need-shape_of-bank-in-4
+shape_of-bank-in-4 c = search rules
 
-returns-4 : tie.Need-returns-4
-returns-4 c = let done = c.before.before in rw (is_deliver done.before.before) done.deliver.ensures
+returns-in-4 : tie.Need-returns-in-4
+returns-in-4 c = let done = c.before.before in rw (is_deliver done.before.before) done.deliver.ensures
 
-same-length-5 : tie.Need-same-length-5
-same-length-5 c = search rules
+shape_of-bank-in-5 : tie.Need-shape_of-bank-in-5
+shape_of-bank-in-5 c = search rules
 
-returns-5 : tie.Need-returns-5
-returns-5 c = let done = c.before.before in rw (is_crash done.before.before) done.crash.ensures
+returns-in-5 : tie.Need-returns-in-5
+returns-in-5 c = let done = c.before.before in rw (is_crash done.before.before) done.crash.ensures
 
-same-length-6 : tie.Need-same-length-6
-same-length-6 c = search rules
+shape_of-bank-in-6 : tie.Need-shape_of-bank-in-6
+shape_of-bank-in-6 c = search rules
 
-returns-6 : tie.Need-returns-6
-returns-6 c = let done = c.before.before in rw (is_detect done.before.before) done.detect.ensures
+returns-in-6 : tie.Need-returns-in-6
+returns-in-6 c = let done = c.before.before in rw (is_detect done.before.before) done.detect.ensures
 
-same-length-7 : tie.Need-same-length-7
-same-length-7 c = search rules
+shape_of-bank-in-7 : tie.Need-shape_of-bank-in-7
+shape_of-bank-in-7 c = search rules
 
-returns-7 : tie.Need-returns-7
-returns-7 c = let done = c.before.before in rw done.before.before.match.keys7 done.lose.ensures
+returns-in-7 : tie.Need-returns-in-7
+returns-in-7 c = let done = c.before.before in rw done.before.before.in-7.is done.lose.ensures
 
-returns-8 : tie.Need-returns-8
-returns-8 c = search ne_eqb
+returns-in_default : tie.Need-returns-in_default
+returns-in_default c = search ne_eqb
 
 pub apply_spec : {M : Type 1} → statement M
 apply_spec =
@@ -126,18 +126,18 @@ apply_spec =
     crash-requires
     detect-requires
     lose-requires
-    same_length
-    returns
-    same-length-2
-    returns-2
-    same-length-3
-    returns-3
-    same-length-4
-    returns-4
-    same-length-5
-    returns-5
-    same-length-6
-    returns-6
-    same-length-7
-    returns-7
-    returns-8)
+    shape_of-bank-in-1
+    returns-in-1
+    shape_of-bank-in-2
+    returns-in-2
+    shape_of-bank-in-3
+    returns-in-3
+    shape_of-bank-in-4
+    returns-in-4
+    shape_of-bank-in-5
+    returns-in-5
+    shape_of-bank-in-6
+    returns-in-6
+    shape_of-bank-in-7
+    returns-in-7
+    returns-in_default)

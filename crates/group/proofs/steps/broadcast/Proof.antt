@@ -29,59 +29,59 @@ next : (c : tie.Start) → words (sort c) c.args.bank.now count < (sort c).messa
 next c = ltb-true _ _ (granted c).room
 
 -- where the record is lent: the function's beginning
-abbrev start : tie.After-record-end → tie.Start
+abbrev start : tie.After-record_end-e → tie.Start
 start c = c.before.before.before.before.before
 
-lending : (c : tie.After-record-end) → let s = start c in let b = s.args.bank.now in
-    Lends (sort s) b (words (sort s) b count) c.before.record-at.result c.record-end.result
+lending : (c : tie.After-record_end-e) → let s = start c in let b = s.args.bank.now in
+    Lends (sort s) b (words (sort s) b count) c.before.record_at-a.result c.record_end-e.result
 lending c =
     let s = start c in
-    lends s.pre.sound.whole (next s) c.before.record-at.ensures c.record-end.ensures
+    lends s.requires.sound.whole (next s) c.before.record_at-a.ensures c.record_end-e.ensures
 
 -- where the bank is whole again: where the record was lent
-abbrev lent : tie.After-slice-known4 → tie.After-record-end
+abbrev lent : tie.After-slice_known-4-1 → tie.After-record_end-e
 lent c = c.before.before.before.before
 
-slice-read-n : tie.Need-slice-read-n
-slice-read-n c = search rules
+bounds-bank-0 : tie.Need-bounds-bank-0
+bounds-bank-0 c = search rules
 
-slice-read-m : tie.Need-slice-read-m
-slice-read-m c = search rules
+bounds-bank-2 : tie.Need-bounds-bank-2
+bounds-bank-2 c = search rules
 
-record-at-requires : tie.Need-record-at-requires
-record-at-requires c κs = search rules
+record_at-a-requires : tie.Need-record_at-a-requires
+record_at-a-requires c κs = search rules
 
-record-end-requires : tie.Need-record-end-requires
-record-end-requires c κs = search rules
+record_end-e-requires : tie.Need-record_end-e-requires
+record_end-e-requires c κs = search rules
 
-mul-write-fresh : tie.Need-overflow-mul-write-fresh
-mul-write-fresh c = let h = lent_inside (lending c) in omega arith
+offset_bounds-bank-a : tie.Need-offset_bounds-bank-a
+offset_bounds-bank-a c = let h = lent_inside (lending c) in omega arith
 
-sub-write-fresh : tie.Need-overflow-sub-write-fresh
-sub-write-fresh c = search rules
+slice_bounds-write_fresh-count : tie.Need-slice_bounds-write_fresh-count
+slice_bounds-write_fresh-count c = search rules
 
-part-write-fresh-start : tie.Need-slice-bounds-write-fresh-start
-part-write-fresh-start c = search rules
+slice_bounds-write_fresh-start : tie.Need-slice_bounds-write_fresh-start
+slice_bounds-write_fresh-start c = search rules
 
-part-write-fresh-end : tie.Need-slice-bounds-write-fresh-end
-part-write-fresh-end c = lent_inside (lending c)
+slice_bounds-write_fresh-end : tie.Need-slice_bounds-write_fresh-end
+slice_bounds-write_fresh-end c = lent_inside (lending c)
 
-write-fresh-requires : tie.Need-write-fresh-requires
-write-fresh-requires c κs =
+write_fresh-requires : tie.Need-write_fresh-requires
+write_fresh-requires c κs =
     let s = start c.before in (
       lent_length (lending c.before),
-      controller_below (sort s) _ s.pre.sound s.args.who (granted s).there,
-      s.pre.sound.few,
+      controller_below (sort s) _ s.requires.sound s.args.who (granted s).there,
+      s.requires.sound.few,
     )
 
-add-bank : tie.Need-overflow-add-bank
-add-bank c = let s = start (lent c) in omega (arith, next s, short s.args.room)
+overflow_add-bank : tie.Need-overflow_add-bank
+overflow_add-bank c = let s = start (lent c) in omega (arith, next s, short s.args.room)
 
-slice-write-bank : tie.Need-slice-write-bank
-slice-write-bank c = search rules
+bounds-bank-2-2 : tie.Need-bounds-bank-2-2
+bounds-bank-2-2 c = search rules
 
-same_length : tie.Need-same-length
-same_length c = search rules
+shape_of-bank : tie.Need-shape_of-bank
+shape_of-bank c = search rules
 
 returns : tie.Need-returns
 returns c =
@@ -91,7 +91,7 @@ returns c =
     let b = s.args.bank.now in
     let m : ℕ = words L b count in
     let new = fresh_record L (words L b N) s.args.who s.args.stamp s.args.value in
-    rw c.before.before.write-fresh.ensures
+    rw c.before.before.write_fresh.ensures
     (ap (λ l. set l (address L count) (m + 1)) (lent_whole (lending w) new (fresh_change L _ _ _ _))
     ∙ sym (puts-append (address L) b (in_record m (new (record_of (words L b) m))) (count ≔ (m + 1) ∷ [])))
 
@@ -99,16 +99,16 @@ pub broadcast_spec : {M : Type 1} → statement M
 broadcast_spec =
     tie.close
     (tie.spec
-    slice-read-n
-    slice-read-m
-    record-at-requires
-    record-end-requires
-    mul-write-fresh
-    sub-write-fresh
-    part-write-fresh-start
-    part-write-fresh-end
-    write-fresh-requires
-    add-bank
-    slice-write-bank
-    same_length
+    bounds-bank-0
+    bounds-bank-2
+    record_at-a-requires
+    record_end-e-requires
+    offset_bounds-bank-a
+    slice_bounds-write_fresh-count
+    slice_bounds-write_fresh-start
+    slice_bounds-write_fresh-end
+    write_fresh-requires
+    overflow_add-bank
+    bounds-bank-2-2
+    shape_of-bank
     returns)

@@ -6,7 +6,7 @@ use Prim.Native.Nat.{ℕ, ◌+◌, ◌-◌, ◌<◌}
 use native.Mathlib.Omega.{arith}
 use borrow.Rule.Slice.PartMut.{put_mid}
 use lib.ListN.{length, get_or, set, length-set}
-use Rattle.bank.specs.Place.{record_of, logLength, log}
+use Rattle.bank.specs.Place.{record_of, log_length, log}
 use Rattle.bank.specs.Layout.{Layout, layout, address, words, puts, in_record}
 use Rattle.bank.proofs.Places.{inside}
 use Rattle.bank.proofs.Rooms.{short}
@@ -24,7 +24,7 @@ abbrev sort : tie.Start → Layout
 sort c = layout c.args.room
 
 abbrev length₀ : tie.Start → ℕ
-length₀ c = words (sort c) c.args.bank.now (logLength c.args.i)
+length₀ c = words (sort c) c.args.bank.now (log_length c.args.i)
 
 record Here (c : tie.Start) : Type 0 where
   there : c.args.i < (sort c).controllers
@@ -45,121 +45,121 @@ here c =
     }
 
 -- where the log's length is looked up: the function's beginning
-abbrev begun : tie.After-length-at → tie.Start
+abbrev begun : tie.After-length_at-l → tie.Start
 begun c = c.before.before
 
 -- where the record is lent: the log's next entry, its length, and the function's beginning
-abbrev entry : tie.After-record-end → tie.After-log-at
+abbrev entry : tie.After-record_end-e → tie.After-log_at-k
 entry c = c.before.before
 
-abbrev counted : tie.After-record-end → tie.After-length-at
+abbrev counted : tie.After-record_end-e → tie.After-length_at-l
 counted c = (entry c).before.before
 
-abbrev start : tie.After-record-end → tie.Start
+abbrev start : tie.After-record_end-e → tie.Start
 start c = begun (counted c)
 
 -- where the bank is whole again: where the record was lent
-abbrev lent : tie.After-slice-known3 → tie.After-record-end
+abbrev lent : tie.After-slice_known-3-1 → tie.After-record_end-e
 lent c = c.before.before.before.before
 
-lending : (c : tie.After-record-end) → let a = (start c).args in
-    Lends (sort (start c)) a.bank.now a.m c.before.record-at.result c.record-end.result
+lending : (c : tie.After-record_end-e) → let a = (start c).args in
+    Lends (sort (start c)) a.bank.now a.m c.before.record_at-a.result c.record_end-e.result
 lending c =
     let s = start c in
-    lends s.pre.sound.whole (here s).given c.before.record-at.ensures c.record-end.ensures
+    lends s.requires.sound.whole (here s).given c.before.record_at-a.ensures c.record_end-e.ensures
 
 -- the log's length as it is read
-read : (c : tie.After-length-at) → let s = begun c in
-    get_or s.args.bank.now c.length_at.result 0 ≡ length₀ s
-read c = ap (λ (x : ℕ). get_or (begun c).args.bank.now x 0) c.length_at.ensures
+read : (c : tie.After-length_at-l) → let s = begun c in
+    get_or s.args.bank.now c.length_at-l.result 0 ≡ length₀ s
+read c = ap (λ (x : ℕ). get_or (begun c).args.bank.now x 0) c.length_at-l.ensures
 
 -- both words of the log stand in the bank
-length_in : (c : tie.After-length-at) → c.length_at.result < length (begun c).args.bank.now
+length_in : (c : tie.After-length_at-l) → c.length_at-l.result < length (begun c).args.bank.now
 length_in c =
     let s = begun c in
-    let h = inside (sort s) (logLength s.args.i) (here s).there in
-    omega (arith, c.length_at.ensures, s.pre.sound.whole)
+    let h = inside (sort s) (log_length s.args.i) (here s).there in
+    omega (arith, c.length_at-l.ensures, s.requires.sound.whole)
 
-entry_in : (c : tie.After-record-end) → (entry c).log-at.result < length (start c).args.bank.now
+entry_in : (c : tie.After-record_end-e) → (entry c).log_at-k.result < length (start c).args.bank.now
 entry_in c =
     let s = start c in
     let h = inside (sort s) (log s.args.i (length₀ s)) ((here s).there, (here s).room) in
-    omega (arith, (entry c).log-at.ensures, read (counted c), s.pre.sound.whole)
+    omega (arith, (entry c).log_at-k.ensures, read (counted c), s.requires.sound.whole)
 
 -- the lent record was put back: the bank is as long as it was
-as_long : (c : tie.After-slice-known3) → let w = lent c in let a = w.before.record-at.result in
-    length (put_mid a (w.record-end.result - a) (start w).args.bank.now c.before.before.deliver.new.0)
+as_long : (c : tie.After-slice_known-3-1) → let w = lent c in let a = w.before.record_at-a.result in
+    length (put_mid a (w.record_end-e.result - a) (start w).args.bank.now c.before.before.deliver.new.0)
     ≡ length (start w).args.bank.now
 as_long c = search rules
 
-length-at-requires : tie.Need-length-at-requires
-length-at-requires c κs = search rules
+length_at-l-requires : tie.Need-length_at-l-requires
+length_at-l-requires c κs = search rules
 
-mul-length : tie.Need-overflow-mul-length
-mul-length c = search rules
+offset_bounds-bank-l : tie.Need-offset_bounds-bank-l
+offset_bounds-bank-l c = search rules
 
-slice-read-length : tie.Need-slice-read-length
-slice-read-length c = length_in c.before
+bounds-bank-l : tie.Need-bounds-bank-l
+bounds-bank-l c = length_in c.before
 
-log-at-requires : tie.Need-log-at-requires
-log-at-requires c κs = search rules
+log_at-k-requires : tie.Need-log_at-k-requires
+log_at-k-requires c κs = search rules
 
-record-at-requires : tie.Need-record-at-requires
-record-at-requires c κs = search rules
+record_at-a-requires : tie.Need-record_at-a-requires
+record_at-a-requires c κs = search rules
 
-record-end-requires : tie.Need-record-end-requires
-record-end-requires c κs = search rules
+record_end-e-requires : tie.Need-record_end-e-requires
+record_end-e-requires c κs = search rules
 
-mul-deliver : tie.Need-overflow-mul-deliver
-mul-deliver c = let h = lent_inside (lending c) in omega arith
+offset_bounds-bank-a : tie.Need-offset_bounds-bank-a
+offset_bounds-bank-a c = let h = lent_inside (lending c) in omega arith
 
-sub-deliver : tie.Need-overflow-sub-deliver
-sub-deliver c = search rules
+slice_bounds-deliver-count : tie.Need-slice_bounds-deliver-count
+slice_bounds-deliver-count c = search rules
 
-part-deliver-start : tie.Need-slice-bounds-deliver-start
-part-deliver-start c = search rules
+slice_bounds-deliver-start : tie.Need-slice_bounds-deliver-start
+slice_bounds-deliver-start c = search rules
 
-part-deliver-end : tie.Need-slice-bounds-deliver-end
-part-deliver-end c = lent_inside (lending c)
+slice_bounds-deliver-end : tie.Need-slice_bounds-deliver-end
+slice_bounds-deliver-end c = lent_inside (lending c)
 
 deliver-requires : tie.Need-deliver-requires
 deliver-requires c κs =
     let s = start c.before in
     (lent_length (lending c.before), (here s).there)
 
-mul-bank : tie.Need-overflow-mul-bank
-mul-bank c = let h = entry_in (lent c) in omega arith
+offset_bounds-bank-k : tie.Need-offset_bounds-bank-k
+offset_bounds-bank-k c = let h = entry_in (lent c) in omega arith
 
-slice-write-bank : tie.Need-slice-write-bank
-slice-write-bank c = subst (λ n. (entry (lent c)).log-at.result < n) (sym (as_long c)) (entry_in (lent c))
+bounds-bank-k : tie.Need-bounds-bank-k
+bounds-bank-k c = subst (λ n. (entry (lent c)).log_at-k.result < n) (sym (as_long c)) (entry_in (lent c))
 
-add-bank : tie.Need-overflow-add-bank
-add-bank c =
+overflow_add-bank : tie.Need-overflow_add-bank
+overflow_add-bank c =
     let s = start (lent c) in
     omega (arith, (here s).room, short s.args.room, read (counted (lent c)))
 
-mul-bank-2 : tie.Need-overflow-mul-bank-2
-mul-bank-2 c = search rules
+offset_bounds-bank-l-2 : tie.Need-offset_bounds-bank-l-2
+offset_bounds-bank-l-2 c = search rules
 
-slice-write-bank-2 : tie.Need-slice-write-bank-2
-slice-write-bank-2 c =
+bounds-bank-l-2 : tie.Need-bounds-bank-l-2
+bounds-bank-l-2 c =
     let l = counted (lent c) in
-    subst (λ n. l.length_at.result < n) (sym (simp length-set (as_long c))) (length_in l)
+    subst (λ n. l.length_at-l.result < n) (sym (simp length-set (as_long c))) (length_in l)
 
-same_length : tie.Need-same-length
-same_length c = search rules
+shape_of-bank : tie.Need-shape_of-bank
+shape_of-bank c = search rules
 
 -- the bank with the record put back is the bank with its mark
-marked-bank : (c : tie.After-slice-known3)
-    → let w = lent c in let s = start w in let a = w.before.record-at.result in
-    put_mid a (w.record-end.result - a) s.args.bank.now c.before.before.deliver.new.0
+marked-bank : (c : tie.After-slice_known-3-1)
+    → let w = lent c in let s = start w in let a = w.before.record_at-a.result in
+    put_mid a (w.record_end-e.result - a) s.args.bank.now c.before.before.deliver.new.0
     ≡ puts (address (sort s)) s.args.bank.now
     (in_record s.args.m (marked s.args.i (record_of (words (sort s) s.args.bank.now) s.args.m)))
 marked-bank c =
     let w = lent c in
     let s = start w in
-    let a : ℕ = w.before.record-at.result in
-    let k : ℕ = w.record-end.result - a in
+    let a : ℕ = w.before.record_at-a.result in
+    let k : ℕ = w.record_end-e.result - a in
     ap (λ (r : List ℕ). put_mid a k s.args.bank.now r) c.before.before.deliver.ensures
     ∙ lent_whole (lending w) _ (marked_change (sort s) s.args.i)
 
@@ -168,29 +168,29 @@ returns c =
     let w = lent c in
     let s = start w in
     let k = read (counted w) in
-    let at = (entry w).log-at.ensures ∙ ap (λ (x : ℕ). address (sort s) (log s.args.i x)) k in
-    let tail = (counted w).length_at.ensures in
+    let at = (entry w).log_at-k.ensures ∙ ap (λ (x : ℕ). address (sort s) (log s.args.i x)) k in
+    let tail = (counted w).length_at-l.ensures in
     λ j. set (set (marked-bank c j) (at j) s.args.m) (tail j) (k j + 1)
 
 pub deliver_spec : {M : Type 1} → statement M
 deliver_spec =
     tie.close
     (tie.spec
-    length-at-requires
-    mul-length
-    slice-read-length
-    log-at-requires
-    record-at-requires
-    record-end-requires
-    mul-deliver
-    sub-deliver
-    part-deliver-start
-    part-deliver-end
+    length_at-l-requires
+    offset_bounds-bank-l
+    bounds-bank-l
+    log_at-k-requires
+    record_at-a-requires
+    record_end-e-requires
+    offset_bounds-bank-a
+    slice_bounds-deliver-count
+    slice_bounds-deliver-start
+    slice_bounds-deliver-end
     deliver-requires
-    mul-bank
-    slice-write-bank
-    add-bank
-    mul-bank-2
-    slice-write-bank-2
-    same_length
+    offset_bounds-bank-k
+    bounds-bank-k
+    overflow_add-bank
+    offset_bounds-bank-l-2
+    bounds-bank-l-2
+    shape_of-bank
     returns)

@@ -15,46 +15,46 @@ granted : (c : tie.Start) → Detects (words (layout c.args.room) c.args.bank.no
 granted c = detect_granted (layout c.args.room) _ c.requires.free
 
 -- the view stands in the bank
-here : (c : tie.After-view-at) → c.view-at.result < length c.before.before.args.bank.now
+here : (c : tie.After-view_at-v) → c.view_at-v.result < length c.before.before.args.bank.now
 here c =
     let s = c.before.before in
     let L = layout s.args.room in
     let i = controller_below L s.args.bank.now s.requires.sound s.args.i (granted s).first in
-    omega (arith, c.view-at.ensures, s.requires.sound.whole, inside L (view s.args.i) i)
+    omega (arith, c.view_at-v.ensures, s.requires.sound.whole, inside L (view s.args.i) i)
 
-view-at-requires : tie.Need-view-at-requires
-view-at-requires c κs = search rules
+view_at-v-requires : tie.Need-view_at-v-requires
+view_at-v-requires c κs = search rules
 
-mul-without : tie.Need-overflow-mul-without
-mul-without c = search rules
+offset_bounds-bank-v : tie.Need-offset_bounds-bank-v
+offset_bounds-bank-v c = search rules
 
-slice-read-without : tie.Need-slice-read-without
-slice-read-without c = here c.before
+bounds-bank-v : tie.Need-bounds-bank-v
+bounds-bank-v c = here c.before
 
 without-requires : tie.Need-without-requires
 without-requires c κs = search rules
 
-mul-bank : tie.Need-overflow-mul-bank
-mul-bank c = search rules
+offset_bounds-bank-v-2 : tie.Need-offset_bounds-bank-v-2
+offset_bounds-bank-v-2 c = search rules
 
-slice-write-bank : tie.Need-slice-write-bank
-slice-write-bank c = here c.before.before
+bounds-bank-v-2 : tie.Need-bounds-bank-v-2
+bounds-bank-v-2 c = here c.before.before
 
-same_length : tie.Need-same-length
-same_length c = search rules
+shape_of-bank : tie.Need-shape_of-bank
+shape_of-bank c = search rules
 
 returns : tie.Need-returns
-returns c = rw (c.without.ensures, c.before.before.view-at.ensures)
+returns c = rw (c.without.ensures, c.before.before.view_at-v.ensures)
 
 pub detect_spec : {M : Type 1} → statement M
 detect_spec =
     tie.close
     (tie.spec
-    view-at-requires
-    mul-without
-    slice-read-without
+    view_at-v-requires
+    offset_bounds-bank-v
+    bounds-bank-v
     without-requires
-    mul-bank
-    slice-write-bank
-    same_length
+    offset_bounds-bank-v-2
+    bounds-bank-v-2
+    shape_of-bank
     returns)

@@ -17,42 +17,42 @@ here : (c : tie.Start) → EndsIn (sort c) c.args.from c.args.to c.args.m
 here c = ends-below (sort c) c.args.bank.now c.requires.sound (lose_granted (sort c) _ c.requires.free).ends
 
 -- where the record is lent: the function's beginning
-abbrev start : tie.After-record-end → tie.Start
+abbrev start : tie.After-record_end-e → tie.Start
 start c = c.before.before.before
 
-lending : (c : tie.After-record-end) → let a = (start c).args in
-    Lends (sort (start c)) a.bank.now a.m c.before.record-at.result c.record-end.result
+lending : (c : tie.After-record_end-e) → let a = (start c).args in
+    Lends (sort (start c)) a.bank.now a.m c.before.record_at-a.result c.record_end-e.result
 lending c =
     let s = start c in
-    lends s.pre.sound.whole (here s).message c.before.record-at.ensures c.record-end.ensures
+    lends s.requires.sound.whole (here s).message c.before.record_at-a.ensures c.record_end-e.ensures
 
 -- where the bank is whole again: where the record was lent
-abbrev lent : tie.After-slice-known2 → tie.After-record-end
+abbrev lent : tie.After-slice_known-2-1 → tie.After-record_end-e
 lent c = c.before.before.before.before
 
-record-at-requires : tie.Need-record-at-requires
-record-at-requires c κs = search rules
+record_at-a-requires : tie.Need-record_at-a-requires
+record_at-a-requires c κs = search rules
 
-record-end-requires : tie.Need-record-end-requires
-record-end-requires c κs = search rules
+record_end-e-requires : tie.Need-record_end-e-requires
+record_end-e-requires c κs = search rules
 
-mul-lose : tie.Need-overflow-mul-lose
-mul-lose c = let h = lent_inside (lending c) in omega arith
+offset_bounds-bank-a : tie.Need-offset_bounds-bank-a
+offset_bounds-bank-a c = let h = lent_inside (lending c) in omega arith
 
-sub-lose : tie.Need-overflow-sub-lose
-sub-lose c = search rules
+slice_bounds-lose-count : tie.Need-slice_bounds-lose-count
+slice_bounds-lose-count c = search rules
 
-part-lose-start : tie.Need-slice-bounds-lose-start
-part-lose-start c = search rules
+slice_bounds-lose-start : tie.Need-slice_bounds-lose-start
+slice_bounds-lose-start c = search rules
 
-part-lose-end : tie.Need-slice-bounds-lose-end
-part-lose-end c = lent_inside (lending c)
+slice_bounds-lose-end : tie.Need-slice_bounds-lose-end
+slice_bounds-lose-end c = lent_inside (lending c)
 
 lose-requires : tie.Need-lose-requires
 lose-requires c κs = (lent_length (lending c.before), (here (start c.before)).second)
 
-same_length : tie.Need-same-length
-same_length c = search rules
+shape_of-bank : tie.Need-shape_of-bank
+shape_of-bank c = search rules
 
 returns : tie.Need-returns
 returns c =
@@ -65,12 +65,12 @@ pub lose_spec : {M : Type 1} → statement M
 lose_spec =
     tie.close
     (tie.spec
-    record-at-requires
-    record-end-requires
-    mul-lose
-    sub-lose
-    part-lose-start
-    part-lose-end
+    record_at-a-requires
+    record_end-e-requires
+    offset_bounds-bank-a
+    slice_bounds-lose-count
+    slice_bounds-lose-start
+    slice_bounds-lose-end
     lose-requires
-    same_length
+    shape_of-bank
     returns)

@@ -19,48 +19,48 @@ here : (c : tie.Start) → EndsIn (sort c) c.args.i c.args.from c.args.m
 here c = ends-below (sort c) c.args.bank.now c.requires.sound (receive_granted (sort c) _ c.requires.free).ends
 
 -- where the record is lent: the function's beginning
-abbrev start : tie.After-record-end → tie.Start
+abbrev start : tie.After-record_end-e → tie.Start
 start c = c.before.before.before.before
 
-lending : (c : tie.After-record-end) → let a = (start c).args in
-    Lends (sort (start c)) a.bank.now a.m c.before.record-at.result c.record-end.result
+lending : (c : tie.After-record_end-e) → let a = (start c).args in
+    Lends (sort (start c)) a.bank.now a.m c.before.record_at-a.result c.record_end-e.result
 lending c =
     let s = start c in
-    lends s.pre.sound.whole (here s).message c.before.record-at.ensures c.record-end.ensures
+    lends s.requires.sound.whole (here s).message c.before.record_at-a.ensures c.record_end-e.ensures
 
 -- where the bank is whole again: where the record was lent
-abbrev lent : tie.After-slice-known3 → tie.After-record-end
+abbrev lent : tie.After-slice_known-3-1 → tie.After-record_end-e
 lent c = c.before.before.before.before
 
-slice-read-n : tie.Need-slice-read-n
-slice-read-n c = search rules
+bounds-bank-0 : tie.Need-bounds-bank-0
+bounds-bank-0 c = search rules
 
-record-at-requires : tie.Need-record-at-requires
-record-at-requires c κs = search rules
+record_at-a-requires : tie.Need-record_at-a-requires
+record_at-a-requires c κs = search rules
 
-record-end-requires : tie.Need-record-end-requires
-record-end-requires c κs = search rules
+record_end-e-requires : tie.Need-record_end-e-requires
+record_end-e-requires c κs = search rules
 
-mul-receive : tie.Need-overflow-mul-receive
-mul-receive c = let h = lent_inside (lending c) in omega arith
+offset_bounds-bank-a : tie.Need-offset_bounds-bank-a
+offset_bounds-bank-a c = let h = lent_inside (lending c) in omega arith
 
-sub-receive : tie.Need-overflow-sub-receive
-sub-receive c = search rules
+slice_bounds-receive-count : tie.Need-slice_bounds-receive-count
+slice_bounds-receive-count c = search rules
 
-part-receive-start : tie.Need-slice-bounds-receive-start
-part-receive-start c = search rules
+slice_bounds-receive-start : tie.Need-slice_bounds-receive-start
+slice_bounds-receive-start c = search rules
 
-part-receive-end : tie.Need-slice-bounds-receive-end
-part-receive-end c = lent_inside (lending c)
+slice_bounds-receive-end : tie.Need-slice_bounds-receive-end
+slice_bounds-receive-end c = lent_inside (lending c)
 
 receive-requires : tie.Need-receive-requires
 receive-requires c κs =
     let s = start c.before in
     let e = here s in
-    (lent_length (lending c.before), e.first, e.second, s.pre.sound.few)
+    (lent_length (lending c.before), e.first, e.second, s.requires.sound.few)
 
-same_length : tie.Need-same-length
-same_length c = search rules
+shape_of-bank : tie.Need-shape_of-bank
+shape_of-bank c = search rules
 
 returns : tie.Need-returns
 returns c =
@@ -74,13 +74,13 @@ pub receive_spec : {M : Type 1} → statement M
 receive_spec =
     tie.close
     (tie.spec
-    slice-read-n
-    record-at-requires
-    record-end-requires
-    mul-receive
-    sub-receive
-    part-receive-start
-    part-receive-end
+    bounds-bank-0
+    record_at-a-requires
+    record_end-e-requires
+    offset_bounds-bank-a
+    slice_bounds-receive-count
+    slice_bounds-receive-start
+    slice_bounds-receive-end
     receive-requires
-    same_length
+    shape_of-bank
     returns)

@@ -4,7 +4,7 @@ use mathlib.Core.List.{List}
 use Prim.Native.Nat.{ℕ, ◌-◌, ◌≤◌}
 use native.Mathlib.Omega.{arith}
 use lib.ListN.{length, take, drop}
-use Rattle.bank.specs.Place.{log, logLength}
+use Rattle.bank.specs.Place.{log, log_length}
 use Rattle.bank.specs.Layout.{Layout, layout, address, words}
 use Rattle.bank.proofs.Places.{log-within}
 use Rattle.lists.specs.Logs.{log_refusal}
@@ -45,7 +45,7 @@ within c =
       c.log-at2.ensures,
       k.sound.whole,
       n,
-      log-within (sort f) (asker f) (words (sort f) (lent f) (logLength (asker f)))
+      log-within (sort f) (asker f) (words (sort f) (lent f) (log_length (asker f)))
           (omega (arith, k.there, k.sound.few)) (omega (arith, k.short, k.sound.given)),
     )
 

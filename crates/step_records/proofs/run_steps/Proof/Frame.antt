@@ -14,7 +14,7 @@ use base.Logic.{SProp}
 use base.Fml.{Lft, Share, flft}
 use prog.Memory.{Memory}
 use prog.Routine.{Routine}
-use prog.Wp.{Calls, Loops, at_return, returns as byReturn}
+use prog.Wp.{Calls, Loops, at_return, returns as by_return}
 use types.Logic.{Logic}
 use contract.Monad.{Fun}
 use types.Kit.{Item, Seq, Post as Ending, post, runs, ‵, ◌$◌, move, join, fjoin, suffices, frame, done}
@@ -140,7 +140,7 @@ module _ {M : Type 1} {𝓤 : Ura M} (𝓛 : Logic 𝓤) (mem : Memory → SProp
       → Opd K 𝓛 (Lent c zs ++ vacant R'.mir (answer_block bs) Γ) (the_locals bs) x (vint w64 n)
       → Opd K 𝓛 (Lent c zs ++ vacant R'.mir (answer_block bs) Γ) (the_locals bs) y (vint w16 r)
       → Stand (the_locals bs) (filled R'.mir (answer_block bs) (R'.lowered (ran n r)) Γ)
-      → post 𝓤 H q byReturn ≡ at_return 𝓤 H (the_locals bs) Owes byReturn
+      → post 𝓤 H q by_return ≡ at_return 𝓤 H (the_locals bs) Owes by_return
       → Seq K 𝓛 (Lent c zs ++ vacant R'.mir (answer_block bs) Γ)
       (runs C Λ (the_locals bs) (seq (assign (place result []) (aggregate (x ∷ y ∷ []))) return) q)
   answers t {n} {r} {zs} right x y stand here =
