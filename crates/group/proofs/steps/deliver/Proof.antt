@@ -88,7 +88,7 @@ entry_in c =
 
 -- the lent record was put back: the bank is as long as it was
 as_long : (c : tie.After-slice_known-3-1) → let w = lent c in let a = w.before.record_at-a.result in
-    length (put_mid a (w.record_end-e.result - a) (start w).args.bank.now c.before.before.deliver.new.0)
+    length (put_mid a (w.record_end-e.result - a) (start w).args.bank.now c.before.before.deliver.new.«record»)
     ≡ length (start w).args.bank.now
 as_long c = search rules
 
@@ -152,7 +152,7 @@ shape_of-bank c = search rules
 -- the bank with the record put back is the bank with its mark
 marked-bank : (c : tie.After-slice_known-3-1)
     → let w = lent c in let s = start w in let a = w.before.record_at-a.result in
-    put_mid a (w.record_end-e.result - a) s.args.bank.now c.before.before.deliver.new.0
+    put_mid a (w.record_end-e.result - a) s.args.bank.now c.before.before.deliver.new.«record»
     ≡ puts (address (sort s)) s.args.bank.now
     (in_record s.args.m (marked s.args.i (record_of (words (sort s) s.args.bank.now) s.args.m)))
 marked-bank c =
