@@ -46,6 +46,7 @@ pub fn word_at(s: &[u8], i: usize) -> u16
 }
 
 // How many bytes follow the length in a record of a kind; 0 for an unknown kind.
+#[tactic(auto, unfolding(crate::specs::Records::record_length))]
 fn record_length(kind: u16) -> u16
     ensures { result ≡ record_length kind }
 {
