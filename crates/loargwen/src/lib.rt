@@ -1,6 +1,6 @@
-// The C face of the station's scheduler: opening, one step, the settler and the tally, on numbers and a byte slice that
-// stands for the bank. Each call takes the bytes apart and asks the crate below; the bytes are written where nothing is
-// refused. include/loargwen.h is what a C program sees.
+// What the C face of the station's scheduler does: opening, one step, the settler and the tally, on numbers and a byte
+// slice that stands for the bank. Each call takes the bytes apart and asks the crate below; the bytes are written where
+// nothing is refused. Rattle's crates rest on it; C programs have the same calls from `loargwen_c`.
 #![tactic(auto)]
 
 mod bytes;
@@ -40,8 +40,7 @@ pub struct Day {
     pub sum: u32,
 }
 
-#[unsafe(no_mangle)]
-pub extern "C" fn loargwen_open(bank: &mut [u8], n: u16, mode: u16) -> u16
+pub fn loargwen_open(bank: &mut [u8], n: u16, mode: u16) -> u16
     ensures { OpenBytes bank.old n mode result bank.new }
 {
     if bank.len() != BYTES {
@@ -54,8 +53,7 @@ pub extern "C" fn loargwen_open(bank: &mut [u8], n: u16, mode: u16) -> u16
     r
 }
 
-#[unsafe(no_mangle)]
-pub extern "C" fn loargwen_step(bank: &mut [u8], kind: u16, a: u16, b: u16, c: u16) -> u16
+pub fn loargwen_step(bank: &mut [u8], kind: u16, a: u16, b: u16, c: u16) -> u16
     ensures { StepBytes bank.old (ask kind a b c) result bank.new }
 {
     if bank.len() != BYTES {
@@ -68,8 +66,7 @@ pub extern "C" fn loargwen_step(bank: &mut [u8], kind: u16, a: u16, b: u16, c: u
     r
 }
 
-#[unsafe(no_mangle)]
-pub extern "C" fn loargwen_settle(bank: &mut [u8], budget: u16) -> Settled
+pub fn loargwen_settle(bank: &mut [u8], budget: u16) -> Settled
     ensures { SettleBytes bank.old budget result.refusal result.steps result.quiet bank.new }
 {
     if bank.len() != BYTES {
@@ -96,8 +93,7 @@ fn flag(t: bool) -> u16
     if t { 1 } else { 0 }
 }
 
-#[unsafe(no_mangle)]
-pub extern "C" fn loargwen_tally(bank: &[u8], who: u16, on: u16) -> Day
+pub fn loargwen_tally(bank: &[u8], who: u16, on: u16) -> Day
     ensures { TallyBytes bank.now who on result.refusal result.count result.sum }
 {
     if bank.len() != BYTES {

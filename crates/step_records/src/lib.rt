@@ -1,4 +1,5 @@
-// A Rattle caller's own list of step records, walked by one thin function over the group's single step.
+// A Rattle caller's own list of step records, walked by one thin function over the group's single step. C programs have
+// the same call from `step_records_c`.
 #![tactic(auto)]
 
 ghost use Rattle.step_records.specs.Records.{StepsPromise};
@@ -17,8 +18,7 @@ pub struct Step {
 }
 
 // Applies the steps in order up to the first refusal; what was applied before it stays and is counted.
-#[unsafe(no_mangle)]
-pub extern "C" fn run_steps(bank: &mut [u16], steps: &[Step]) -> Ran
+pub fn run_steps(bank: &mut [u16], steps: &[Step]) -> Ran
     ensures { StepsPromise bank.old steps.now result.accepted result.refusal
         bank.new }
 {
