@@ -4,29 +4,27 @@ SEED ?= 1
 MINUTES ?= 10
 SHELL := bash
 .SHELLFLAGS := -eu -o pipefail -c
-CRATES = $(shell sed -nE 's/^(\w+):.*/\1/p' crates.txt)
-.PHONY: bench test dev quick soak benchmark install format
+CRATES = $(shell sed -nE 's/^(\w+)( staticlib)?:.*/\1/p' crates.txt)
+.PHONY: bench test dev quick soak benchmark archive install format
 
 # proves and builds the bench, then runs the worked example
 bench:
-	rt check bench
+	. tests/lib.sh; build_bench
 	bin/run-hex examples/half-the-copies.hex
 
-# the gate: layout, every proof from nothing, every edit that must fail, the programs; then each folder of tests/: C,
-# documentation, the scenarios of examples/, valgrind, Rust
+# the gate: layout, every proof, every edit that must fail, the programs; then each folder of tests/: C, documentation,
+# the scenarios of examples/, valgrind, Rust
 test:
 	bash .ci/run
 
 # the edit loop of one crate, CRATE: what it rests on is proved first, then an edit costs seconds; not the verdict
 dev:
 	$(if $(filter $(CRATES),$(CRATE)),,$(error make dev CRATE=NAME, where NAME is one of crates.txt: $(CRATES)))
-	rt dev $(CRATE)
+	cd crates/$(CRATE) && rt check
 
-# the gate's quick part: layout, every proof that a change reached, the programs; then documentation and the scenarios
-# of examples/
+# the gate's quick part: every proof that a change reached; then documentation and the scenarios of examples/
 quick:
-	rt fmt --check
-	rt check
+	rt all check
 	bash tests/docs/run
 	bash tests/examples/run
 
@@ -38,14 +36,17 @@ soak:
 benchmark:
 	bash tests/rust/benchmark
 
-install:
-	rt check bench
-	rt staticlib loargwen
-	install -D -m 755 target/bin/bench $(DESTDIR)$(PREFIX)/bin/loargwen-bench
+# proves and builds target/staticlib/libloargwen.a
+archive:
+	. tests/lib.sh; build_archive loargwen
+
+install: archive
+	. tests/lib.sh; build_bench
+	install -D -m 755 crates/bench/out/bench $(DESTDIR)$(PREFIX)/bin/loargwen-bench
 	install -D -m 644 include/loargwen.h $(DESTDIR)$(PREFIX)/include/loargwen.h
 	install -D -m 644 target/staticlib/libloargwen.a $(DESTDIR)$(PREFIX)/lib/libloargwen.a
 	install -d $(DESTDIR)$(PREFIX)/lib/pkgconfig
 	sed 's|@PREFIX@|$(PREFIX)|' loargwen.pc.in >$(DESTDIR)$(PREFIX)/lib/pkgconfig/loargwen.pc
 
 format:
-	rt fmt
+	$(foreach crate,$(CRATES),(cd crates/$(crate) && rt fmt);)

@@ -6,7 +6,7 @@
  * one such log and not in another. The order inside two logs may always differ.
  *
  * Link libloargwen.a: where it was installed `pkg-config --cflags --libs loargwen` says how, and in the repository
- * `rt staticlib loargwen` makes target/staticlib/libloargwen.a. It is code for x86-64 Linux.
+ * `make archive` makes target/staticlib/libloargwen.a. It is code for x86-64 Linux.
  *
  * The whole state of a group is its bank: LOARGWEN_BANK_BYTES bytes of yours, at any address. Each call takes the
  * bank's address and its length in bytes. The library keeps nothing between calls, allocates nothing and touches no

@@ -1,10 +1,11 @@
-# What the C and Rust tests share: the compiler and the emulator for the archives, which are x86-64 code, the programs
-# built from them, and the count of checks. Sourced, at the top of the repository; where checks are counted, part is the
-# name of the tests.
+# What the C and Rust tests share: the archives and the bench, which rt builds, the C programs that are linked with
+# archives, and the count of checks. All of it is x86-64 code, since rt makes no other. Sourced, at the top of the
+# repository; where checks are counted, part is the name of the tests.
 
 archives=(loargwen step_records word_face)
 headers=include
 staticlib=target/staticlib
+bench=crates/bench/out/bench
 built=target/tests
 warnings=(-Wall -Wextra -Werror)
 checks=0
@@ -33,10 +34,6 @@ must_end() { # must_end STATUS WHAT COMMAND..: by this exit status and no other
     passes "$what: exit status $want, as it must be"
 }
 
-native() { # whether this machine runs the archives' code itself
-    [ "$(uname -m)" = x86_64 ]
-}
-
 have() { # have PROGRAM..: whether all of them are installed
     [ "$(command -v "$@" | wc -l)" -eq $# ]
 }
@@ -45,52 +42,39 @@ install_packages() { # install_packages PACKAGE..
     { apt-get update -q && DEBIAN_FRONTEND=noninteractive apt-get install -qy --no-install-recommends "$@"; } >&2
 }
 
-choose_emulator() { # sets emulate, the words before a program of x86-64 code
-    local libraries=/usr/x86_64-linux-gnu
-    emulate=()
-    native || {
-        { have qemu-x86_64-static && [ -f "$libraries/lib/libc.so.6" ]; } ||
-            install_packages qemu-user-static libc6-amd64-cross
-        emulate=(qemu-x86_64-static -L "$libraries")
-    }
+is_new() { # is_new FILE: whether it is there and nothing that crates are made from is newer
+    [ -f "$1" ] && [ -z "$(find crates.txt crates/*/{src,specs,proofs} -newer "$1")" ]
 }
 
-choose_own_tools() { # as choose_tools, for programs of this machine's own code
-    have cc || install_packages gcc libc6-dev
-    compile=(cc)
-    emulate=()
+make_archive() { # make_archive NAME: of the crate NAME, or NAME_c where NAME is a library, and that the C face over it
+    local crate=$1
+    [ ! -d "crates/$1_c" ] || crate=$1_c
+    (cd "crates/$crate" && rt lib)
+    mkdir -p "$staticlib"
+    cp "crates/$crate/out/lib$crate.a" "$staticlib/lib$1.a"
 }
 
-choose_tools() { # sets compile, the words of the compiler, and emulate, those before a program that it made
-    if native; then
-        choose_own_tools
-    else
-        choose_emulator
-        have x86_64-linux-gnu-gcc || install_packages gcc-x86-64-linux-gnu libc6-dev-amd64-cross
-        compile=(x86_64-linux-gnu-gcc -static)
-    fi
+build_archive() { # build_archive NAME: $staticlib/libNAME.a
+    is_new "$staticlib/lib$1.a" || make_archive "$1"
 }
 
-is_new() { # is_new FILE: whether it is there and no file of a crate is newer
-    [ -f "$1" ] && [ -z "$(find crates crates.txt -newer "$1")" ]
-}
-
-build_archive() { # build_archive NAME
-    is_new "$staticlib/lib$1.a" || rt staticlib "$1"
-}
-
-each_archive() { # each_archive COMMAND: for the name of each
+build_archives() {
     local name
-    for name in "${archives[@]}"; do "$1" "$name"; done
+    for name in "${archives[@]}"; do build_archive "$name"; done
 }
 
-link_c() { # link_c SOURCE PROGRAM FOLDER NAME..: compiles a C program with $headers and archives of a folder
-    local source=$1 program=$2 folder=$3
-    shift 3
+build_bench() { # $bench, which rt leaves there once it has proved and run it
+    is_new "$bench" || (cd crates/bench && rt run <stdin >/dev/null)
+}
+
+link_c() { # link_c SOURCE PROGRAM NAME..: compiles a C program with $headers and archives
+    local source=$1 program=$2
+    shift 2
+    have cc || install_packages gcc libc6-dev
     mkdir -p "$built"
-    "${compile[@]}" -O2 -g "${warnings[@]}" -I "$headers" "$source" -L "$folder" "${@/#/-l}" -o "$program"
+    cc -O2 -g "${warnings[@]}" -I "$headers" "$source" -L "$staticlib" "${@/#/-l}" -o "$program"
 }
 
 build_server() {
-    link_c tests/c/server.c "$built/server" "$staticlib" "${archives[@]}"
+    link_c tests/c/server.c "$built/server" "${archives[@]}"
 }

@@ -1,5 +1,5 @@
-# What the comparisons with the second implementation share. Sourced, at the top of the repository, after tests/lib.sh
-# and tests/native.sh, with seed set.
+# What the comparisons with the second implementation share. Sourced, at the top of the repository, after tests/lib.sh,
+# with seed set.
 
 export CARGO_TARGET_DIR=$PWD/target/cargo
 
@@ -9,19 +9,13 @@ cargo_host() { # cargo_host COMMAND FLAG..: in host/rust
     cargo "$command" --manifest-path host/rust/Cargo.toml --release --offline --locked -j2 "$@"
 }
 
-build_linked() { # build_linked PROGRAM: with archives of this machine's own code
-    LOARGWEN_LIB=$PWD/$libraries cargo_host build --features archive --bin "$1"
+build_linked() { # build_linked PROGRAM: with the archives
+    LOARGWEN_LIB=$PWD/$staticlib cargo_host build --features archive --bin "$1"
 }
 
-build_compare() { # sets reach, the flags by which compare reaches the archives
-    if native; then
-        build_linked compare
-        reach=()
-    else
-        cargo_host build --bin compare
-        build_server
-        reach=(--served "${emulate[*]} $built/server")
-    fi
+build_compare() { # sets reach, the flags by which compare reaches the archives: none, since they are linked
+    build_linked compare
+    reach=()
 }
 
 compare() { # compare STEPS FLAG..
