@@ -92,7 +92,7 @@ def look_for(text, path, place):
     """A single name is declared in the file, or a test of it; a printed line is a whole line; other text is there."""
     if path.is_dir():
         wrong(f"{place}: '{text}' has a folder after it: {path}")
-    elif path.suffix in DECLARED and re.fullmatch(r"[\w′-]+", text):
+    elif path.suffix in DECLARED and re.fullmatch(r"[\w'-]+", text):
         must(text in declared(path), f"{place}: '{text}' is not declared, or no test, in {path}")
     elif path.name == "stdout" or path.suffix == ".out":
         must(text in code(path).splitlines(), f"{place}: no line '{text}' in {path}")
@@ -211,9 +211,16 @@ def public_calls():
 
 
 def look_at_calls(entries):
-    """Each has a section, whose promise stands in its contract, which requires nothing; two edits at least."""
+    """Each has a section, whose promise stands in its contract, which requires nothing; two edits at least.
+
+    What a crate NAME_c exports is the call of NAME for C, with its contract, and so has the section of that.
+    """
     sections = {entry.title: entry for entry in entries if entry.section == "call"}
-    for crate, call, contract in public_calls():
+    calls = list(public_calls())
+    for crate, call, contract in calls:
+        if crate.endswith("_c"):
+            must((crate[:-2], call, contract) in calls, f"{call} of {crate} is not that of {crate[:-2]}")
+            continue
         titles = [title for title in sections if re.fullmatch(rf"({crate}::(\w+::)*)?{re.escape(call)}", title)]
         must(len(titles) == 1, f"{len(titles)} sections for {call} of {crate}")
         for entry in map(sections.pop, titles):
