@@ -4,7 +4,6 @@ use mathlib.Core.Path.{◌≡◌, sym, ap₂, ◌∙◌}
 use mathlib.Core.Bool.{true}
 use mathlib.Core.List.{List}
 use native.Mathlib.Omega.{arith}
-use borrow.Author.Tests.{not-true, not-false}
 use Rattle.bank.specs.Layout.{paper}
 use Rattle.bank.specs.Opening.{answer, open_of}
 use Rattle.file.specs.Records.{word_at, begun}

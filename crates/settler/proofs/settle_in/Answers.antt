@@ -1,6 +1,6 @@
 -- settle_in: a step that is taken moves one from the budget to the count (`from_turn`), and where none is left, or no
 -- budget, both end.
-use mathlib.Core.Path.{◌≡◌, refl, sym, ap, ◌∙◌}
+use mathlib.Core.Path.{refl, sym, ap, ◌∙◌}
 use native.Mathlib.Nat.{sub-zero}
 use native.Mathlib.Omega.{arith}
 use Rattle.bank.specs.Layout.{layout}

@@ -4,7 +4,7 @@ use mathlib.Core.Path.{ap}
 use native.Mathlib.Omega.{arith}
 use lib.Seq.{take_all}
 use Rattle.report.specs.Lines
-use Rattle.report.proofs.Printing.{nothing, bounded, as_text, as_long_as, once_more}
+use Rattle.report.proofs.Printing.{nothing, bounded, as_text, once_more}
 use Rattle.report.proofs.Rows.{one-more_entry}
 use Rattle.report.proofs.lines.entries.Goals as goal
 

@@ -1,6 +1,6 @@
 -- play: a record that is applied moves what is left to the place after it (`plays_on`); one that is refused
 -- (`plays_refused`), a bad one (`plays_bad`) and the end (`plays_end`) are the last that is looked at.
-use mathlib.Core.Path.{◌≡◌, refl, sym, ap, ◌∙◌}
+use mathlib.Core.Path.{refl, sym, ap, ◌∙◌}
 use native.Mathlib.Omega.{arith}
 use Rattle.file.specs.Promises.{read_as}
 use Rattle.file.proofs.Finding.{record_onward}

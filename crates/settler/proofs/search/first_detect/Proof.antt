@@ -1,10 +1,8 @@
 -- first_detect: at every turn the whole answer is the answer from controller i's row on. A row that has a detect is
 -- the answer, and one that has none leaves it to the next; past the last row there is none. What falls is N - i.
 use Prim.Native.Nat.{ℕ, ◌≤◌, ◌<◌, ◌-◌}
-use mathlib.Core.Bool.{Bool}
 use mathlib.Core.List.{List}
 use mathlib.Core.Path.{◌≡◌, sym, ap, ap₂, ◌∙◌}
-use mathlib.Core.Logic.{⊎_elim}
 use native.Mathlib.Omega.{arith}
 use borrow.Author.Rules.{rules}
 use Rattle.sets.specs.Set.{has, less, lowest}

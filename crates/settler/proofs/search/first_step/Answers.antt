@@ -1,6 +1,6 @@
 -- first_step: a message that has a step is the answer, and one that has none leaves it to the next; past the last there
 -- is none.
-use mathlib.Core.Path.{◌≡◌, sym, ap, ◌∙◌}
+use mathlib.Core.Path.{sym, ap, ◌∙◌}
 use native.Mathlib.Omega.{arith}
 use Prim.Native.Nat.{◌<◌}
 use Rattle.bank.specs.Place.{count}
