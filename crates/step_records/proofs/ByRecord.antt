@@ -1,6 +1,6 @@
 -- A list of records, one record at a time: how the answer from a record on goes over that record's four words, from the
--- answer of the whole list to the answer past its end. It rests on the definitions and on laws of `group`. The walk by
--- hand has from here, by the four laws `records-..`, all that its loop knows of answers.
+-- answer of the whole list to the answer past its end. It rests on the definitions and on laws of `lists`. The proof of
+-- run_steps has from here, by the four laws `records_..`, all that its loop knows of answers.
 use mathlib.Core.Path.{◌≡◌, refl}
 use mathlib.Core.Bool.{true}
 use mathlib.Core.List.{List, [], ◌∷◌}

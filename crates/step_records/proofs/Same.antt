@@ -1,6 +1,6 @@
 -- Laws for whoever calls run_steps: a list of records answers as its words do in the flat form, its promise leaves no
 -- room for another answer, and 13, the number of a ragged list, is never its answer. They rest on the definitions and
--- on laws of `group`. The walk by hand does not use them, and they use nothing of the walk.
+-- on laws of `bank`, `refusals` and `lists`. The proof of run_steps does not use them, and they use nothing of it.
 use mathlib.Core.Path.{◌≡◌, refl, sym, ap, ◌∙◌}
 use mathlib.Core.Bool.{Bool, true, false, cond}
 use mathlib.Core.List.{List, [], ◌∷◌}

@@ -9,7 +9,7 @@ use numbers::Refusal;
 
 // One step: its kind and three numbers.
 #[repr(C)]
-#[derive(Drop)]
+#[derive(Clone, Copy)]
 pub struct Step {
     pub kind: u16,
     pub a: u16,
