@@ -12,7 +12,7 @@ pub const OPEN: u16 = 16;
 pub const SETTLE: u16 = 17;
 
 // A kind, its numbers, 0 where it has none, and the place after the record.
-#[derive(Drop)]
+#[derive(Clone, Copy)]
 pub struct Record {
     pub kind: u16,
     pub a: u16,

@@ -10,7 +10,7 @@ use lib.Pow.{mod-pow-add}
 use lib.Bits.{bit_and}
 use lib.Count.{count_trailing_zeros, under}
 use borrow.Author.Tests.{eqb-true, eqb-false, eq-eqb, ltb-true, ltb-false, lt-ltb, not-true}
-use Rattle.sets.specs.Set.{has, cut, every, set_of, less, least_from, lowest}
+use Rattle.sets.specs.Set.{has, cut, set_of, less, least_from, lowest}
 use Rattle.sets.proofs.Tests.{both}
 use Rattle.sets.proofs.Digits.{digit_cases, has_low, has_half, has-less}
 use Rattle.sets.proofs.Members.{has-cut}

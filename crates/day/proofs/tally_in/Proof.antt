@@ -1,7 +1,7 @@
 -- tally_in: the answer is at every turn the one from the tally so far over the entries that are left. An entry that is
 -- a given message moves from what is left to the tally, one that is not ends both with 1, and past the last the tally
 -- is the answer. What falls is the entries left.
-use Prim.Native.Nat.{ℕ, ◌-◌, ◌≤◌, ◌<◌}
+use Prim.Native.Nat.{ℕ, ◌-◌, ◌≤◌}
 use mathlib.Core.Path.{◌≡◌, sym, ap₂, ◌∙◌}
 use mathlib.Core.List.{List}
 use native.Mathlib.Omega.{arith}

@@ -1,7 +1,6 @@
 -- find_at: the tests in the definition's order, so that the one that fails decides.
 use mathlib.Core.Path.{◌≡◌, sym, ◌∙◌}
 use mathlib.Core.Bool.{true}
-use borrow.Author.Tests.{not-true, not-false}
 use Rattle.file.specs.Records.{well_cut}
 use Rattle.file.proofs.Finding.{finds_end, finds_cut, finds_unknown, finds_open}
 use Rattle.file.proofs.Finding.{finds_another_length, finds_record}

@@ -3,7 +3,6 @@ use mathlib.Core.Path.{sym, ap, ◌∙◌}
 use native.Mathlib.Omega.{arith}
 use borrow.Author.Rules.{rules}
 use lib.Count.{count_trailing_zeros, trailing_le}
-use Rattle.sets.specs.Set.{cut, lowest}
 use Rattle.sets.proofs.Least.{trailing_lowest, cut_fits, lowest-cut, lowest-none}
 use Rattle.sets.proofs.lowest.Statement.{statement}
 use Rattle.sets.proofs.lowest.Tie as tie

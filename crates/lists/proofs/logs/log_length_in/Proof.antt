@@ -4,7 +4,7 @@ use mathlib.Core.Bool.{true}
 use mathlib.Core.List.{List}
 use Prim.Native.Nat.{ℕ}
 use native.Mathlib.Omega.{arith}
-use borrow.Author.Tests.{lt-ltb, le-ltb, not-true, not-false}
+use borrow.Author.Tests.{lt-ltb, le-ltb}
 use Rattle.bank.specs.Layout.{Layout, layout}
 use Rattle.bank.specs.Fit.{fit}
 use Rattle.lists.proofs.Asking.{log_unfit, log-absent, log_there, no_length, whole_length}

@@ -8,7 +8,6 @@ use mathlib.Core.List.{List}
 use native.Mathlib.Nat.{sub-zero}
 use native.Mathlib.Omega.{arith}
 use lib.ListN.{length, drop}
-use borrow.Author.Tests.{not-true, not-false}
 use Rattle.bank.specs.Layout.{layout}
 use Rattle.bank.specs.Fit.{fit}
 use Rattle.lists.specs.Lists.{run_from, run_of}

@@ -1,6 +1,5 @@
 -- refusal_in: an unfit bank is refused as such, and a fit one by what refuses the step that is asked for.
 use mathlib.Core.Path.{refl, sym, ◌∙◌}
-use borrow.Author.Tests.{not-true, not-false}
 use Rattle.refusals.specs.Promises.{refusal_of}
 use Rattle.refusals.proofs.Deciding.{passed, stopped}
 use borrow.Author.Rules.{rules}
