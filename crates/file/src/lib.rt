@@ -12,7 +12,7 @@ pub const OPEN: u16 = 16;
 pub const SETTLE: u16 = 17;
 
 // A kind, its numbers, 0 where it has none, and the place after the record.
-#[derive(Drop)]
+#[derive(Clone, Copy)]
 pub struct Record {
     pub kind: u16,
     pub a: u16,
@@ -46,6 +46,7 @@ pub fn word_at(s: &[u8], i: usize) -> u16
 }
 
 // How many bytes follow the length in a record of a kind; 0 for an unknown kind.
+#[tactic(auto, unfolding(crate::specs::Records::record_length))]
 fn record_length(kind: u16) -> u16
     ensures { result ≡ record_length kind }
 {

@@ -161,7 +161,7 @@ module _ (L : Layout) (b c : List ℕ) (e : SameBelow L b c) where
       let (here, later) = both _ _ g in
       let k = message-below L b f m here in
       let one : 0 < 1 = omega arith in
-      add_same f day _ ms later
+      add_same f day (add_entry day t (words L b (message m stamp)) (words L b (message m value))) ms later
       ∙ ap₂ (λ s v. add_all day (words L c) (add_entry day t s v) ms)
       (e.numbers (message m stamp) (k, one) refl) (e.numbers (message m value) (k, one) refl)
 

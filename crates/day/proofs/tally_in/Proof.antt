@@ -23,11 +23,11 @@ record Turn (L : Layout) (bank : List ℕ) (who day : ℕ) (log : List ℕ) (t :
   inside : k ≤ length log
   rest : tally_of L bank who day ≡ tally_from day (words L bank) t (drop k log)
 
-abbrev invariant-loop : tie.invariant-loop
-invariant-loop bank room who day log c t₀ k₀ t k = Turn (layout room) bank who day log t k
+abbrev invariant-loop-k : tie.invariant-loop-k
+invariant-loop-k bank room who day log c t₀ k₀ t k = Turn (layout room) bank who day log t k
 
-abbrev decreases-loop : tie.decreases-loop
-decreases-loop bank room who day log c t₀ k₀ t k = length log - k
+abbrev decreases-loop-k : tie.decreases-loop-k
+decreases-loop-k bank room who day log c t₀ k₀ t k = length log - k
 
 -- what `refused` answers is the definition's answer where that is a number and an empty tally
 refuses : {d : DayAnswer} {r x n s : ℕ} → (x ≡ r) × (n ≡ 0) × (s ≡ 0) → d ≡ day_answer r empty
@@ -35,150 +35,150 @@ refuses : {d : DayAnswer} {r x n s : ℕ} → (x ≡ r) × (n ≡ 0) × (s ≡ 0
 refuses e f = rw (e.0, e.1, e.2) (sym f)
 
 -- the entry, from where the question of the log is not refused
-abbrev start : tie.Else1 invariant-loop decreases-loop → tie.Start invariant-loop decreases-loop
+abbrev start : tie.Else-l-ne-DONE invariant-loop-k decreases-loop-k → tie.Start invariant-loop-k decreases-loop-k
 start c = c.before.before.before.before
 
-abbrev sort : tie.Else1 invariant-loop decreases-loop → Layout
+abbrev sort : tie.Else-l-ne-DONE invariant-loop-k decreases-loop-k → Layout
 sort c = layout (start c).args.room
 
-free : (c : tie.Else1 invariant-loop decreases-loop) → log_refusal (sort c) (start c).args.bank.now (start c).args.who ≡ 0
-free c = sym c.before.before.log-length-in.ensures.0 ∙ c.if1.false
+free : (c : tie.Else-l-ne-DONE invariant-loop-k decreases-loop-k) → log_refusal (sort c) (start c).args.bank.now (start c).args.who ≡ 0
+free c = sym c.before.before.log_length_in-l.ensures.0 ∙ c.if-l-ne-DONE.false
 
 -- in a turn: where the question passed, the log as it was handed back, the bank's words, and the entry looked at
-abbrev handed : tie.In-loop invariant-loop decreases-loop → tie.After-log-in invariant-loop decreases-loop
+abbrev handed : tie.In-loop-k invariant-loop-k decreases-loop-k → tie.After-log_in-log invariant-loop-k decreases-loop-k
 handed i = i.before.before.before.before
 
-abbrev asked : tie.In-loop invariant-loop decreases-loop → tie.Else1 invariant-loop decreases-loop
+abbrev asked : tie.In-loop-k invariant-loop-k decreases-loop-k → tie.Else-l-ne-DONE invariant-loop-k decreases-loop-k
 asked i = (handed i).before.before
 
-abbrev words_of : tie.In-loop invariant-loop decreases-loop → Words
+abbrev words_of : tie.In-loop-k invariant-loop-k decreases-loop-k → Words
 words_of i = words (sort (asked i)) (start (asked i)).args.bank.now
 
-abbrev entry : tie.In-loop invariant-loop decreases-loop → ℕ
-entry i = get_or (handed i).log-in.result.now i.before.loop.k 0
+abbrev entry : tie.In-loop-k invariant-loop-k decreases-loop-k → ℕ
+entry i = get_or (handed i).log_in-log.result.now i.before.loop-k.k 0
 
 -- the count as it was read
-counted : (i : tie.In-loop invariant-loop decreases-loop) → i.before.before.before.word.result ≡ words_of i count
-counted i = i.before.before.before.word.ensures
+counted : (i : tie.In-loop-k invariant-loop-k decreases-loop-k) → i.before.before.before.word-count.result ≡ words_of i count
+counted i = i.before.before.before.word-count.ensures
 
-log-length-in-requires : tie.Need-log-length-in-requires invariant-loop decreases-loop
-log-length-in-requires c κs = search rules
+log_length_in-l-requires : tie.Need-log_length_in-l-requires invariant-loop-k decreases-loop-k
+log_length_in-l-requires c κs = search rules
 
-refused-requires : tie.Need-refused-requires invariant-loop decreases-loop
+refused-requires : tie.Need-refused-requires invariant-loop-k decreases-loop-k
 refused-requires c κs = search rules
 
-returns : tie.Need-returns invariant-loop decreases-loop
-returns c =
+returns-then-l-ne-DONE : tie.Need-returns-then-l-ne-DONE invariant-loop-k decreases-loop-k
+returns-then-l-ne-DONE c =
     let s = c.before.before.before.before.before.args in
-    let e = c.before.before.before.log-length-in.ensures.0 in
+    let e = c.before.before.before.log_length_in-l.ensures.0 in
     refuses c.refused.ensures
-    (tally_unasked (layout s.room) s.bank.now s.who s.day _ (sym e) c.before.if1.true)
+    (tally_unasked (layout s.room) s.bank.now s.who s.day _ (sym e) c.before.if-l-ne-DONE.true)
 
-refused-requires-2 : tie.Need-refused-requires-2 invariant-loop decreases-loop
-refused-requires-2 c κs = search rules
+refused-requires-then-day-gt-LAST_DAY : tie.Need-refused-requires-then-day-gt-LAST_DAY invariant-loop-k decreases-loop-k
+refused-requires-then-day-gt-LAST_DAY c κs = search rules
 
-returns-2 : tie.Need-returns-2 invariant-loop decreases-loop
-returns-2 c =
+returns-then-day-gt-LAST_DAY : tie.Need-returns-then-day-gt-LAST_DAY invariant-loop-k decreases-loop-k
+returns-then-day-gt-LAST_DAY c =
     let q = c.before.before in
     let s = (start q).args in
-    refuses c.refused2.ensures
-    (tally_late (sort q) s.bank.now s.who s.day (free q) c.before.if2.true)
+    refuses c.refused-then-day-gt-LAST_DAY.ensures
+    (tally_late (sort q) s.bank.now s.who s.day (free q) c.before.if-day-gt-LAST_DAY.true)
 
-log-in-requires : tie.Need-log-in-requires invariant-loop decreases-loop
-log-in-requires c κs = search rules
+log_in-log-requires : tie.Need-log_in-log-requires invariant-loop-k decreases-loop-k
+log_in-log-requires c κs = search rules
 
-word-requires : tie.Need-word-requires invariant-loop decreases-loop
-word-requires c κs = search rules
+word-count-requires : tie.Need-word-count-requires invariant-loop-k decreases-loop-k
+word-count-requires c κs = search rules
 
-fresh-requires : tie.Need-fresh-requires invariant-loop decreases-loop
-fresh-requires c κs = search rules
+fresh-t-requires : tie.Need-fresh-t-requires invariant-loop-k decreases-loop-k
+fresh-t-requires c κs = search rules
 
-loop-holds : tie.Need-loop-init invariant-loop decreases-loop
-loop-holds c =
+loop-k-init : tie.Need-loop-k-init invariant-loop-k decreases-loop-k
+loop-k-init c =
     let h = c.before.before in
     let q = h.before.before in
     let s = (start q).args in
     record {
       inside = search rules;
-      rest = tally-asked (sort q) s.bank.now s.who s.day (free q) h.before.if2.false
-          ∙ ap₂ (tally_from s.day (words (sort q) s.bank.now)) (sym c.fresh.ensures)
-          (sym h.log-in.ensures);
+      rest = tally-asked (sort q) s.bank.now s.who s.day (free q) h.before.if-day-gt-LAST_DAY.false
+          ∙ ap₂ (tally_from s.day (words (sort q) s.bank.now)) (sym c.fresh-t.ensures)
+          (sym h.log_in-log.ensures);
     }
 
-mul-m : tie.Need-overflow-mul-m invariant-loop decreases-loop
-mul-m c = search rules
+offset_bounds-log-k : tie.Need-offset_bounds-log-k invariant-loop-k decreases-loop-k
+offset_bounds-log-k c = search rules
 
-shared-slice-read-m : tie.Need-shared-slice-read-m invariant-loop decreases-loop
-shared-slice-read-m c = search rules
+bounds-log-k : tie.Need-bounds-log-k invariant-loop-k decreases-loop-k
+bounds-log-k c = search rules
 
-refused-requires-3 : tie.Need-refused-requires-3 invariant-loop decreases-loop
-refused-requires-3 c κs = search rules
+refused-requires-then-m-count : tie.Need-refused-requires-then-m-count invariant-loop-k decreases-loop-k
+refused-requires-then-m-count c κs = search rules
 
-returns-3 : tie.Need-returns-3 invariant-loop decreases-loop
-returns-3 c =
+returns-then-m-count : tie.Need-returns-then-m-count invariant-loop-k decreases-loop-k
+returns-then-m-count c =
     let i = c.before.before.before in
-    let stranger = le-ltb (entry i) _ (rw (counted i) at c.before.if3.true) in
-    refuses c.refused3.ensures
-    (i.before.loop.invariant.rest ∙ from_stranger _ (words_of i) _ _ _ i.loop-test.true stranger)
+    let stranger = le-ltb (entry i) _ (rw (counted i) at c.before.if-m-count.true) in
+    refuses c.refused-then-m-count.ensures
+    (i.before.loop-k.invariant.rest ∙ from_stranger _ (words_of i) _ _ _ i.loop-k-test.true stranger)
 
-stamp-requires : tie.Need-stamp-requires invariant-loop decreases-loop
+stamp-requires : tie.Need-stamp-requires invariant-loop-k decreases-loop-k
 stamp-requires c κs = search rules
 
-value-requires : tie.Need-value-requires invariant-loop decreases-loop
+value-requires : tie.Need-value-requires invariant-loop-k decreases-loop-k
 value-requires c κs = search rules
 
-add-entry-requires : tie.Need-add-entry-requires invariant-loop decreases-loop
-add-entry-requires c κs = search rules
+add_entry-t-requires : tie.Need-add_entry-t-requires invariant-loop-k decreases-loop-k
+add_entry-t-requires c κs = search rules
 
-add-k : tie.Need-overflow-add-k invariant-loop decreases-loop
-add-k c = search rules
+overflow_add-k : tie.Need-overflow_add-k invariant-loop-k decreases-loop-k
+overflow_add-k c = search rules
 
-loop-less : tie.Need-loop-smaller invariant-loop decreases-loop
-loop-less c = omega arith
+loop-k-smaller : tie.Need-loop-k-smaller invariant-loop-k decreases-loop-k
+loop-k-smaller c = omega arith
 
-loop-again : tie.Need-loop-preserved invariant-loop decreases-loop
-loop-again c =
+loop-k-preserved : tie.Need-loop-k-preserved invariant-loop-k decreases-loop-k
+loop-k-preserved c =
     let v = c.before in
     let e = v.before.before in
     let i = e.before.before in
-    let l = i.before.loop in
+    let l = i.before.loop-k in
     let h = handed i in
-    let given = lt-ltb (entry i) _ (rw (counted i) at e.if3.false) in
+    let given = lt-ltb (entry i) _ (rw (counted i) at e.if-m-count.false) in
     record {
       inside = omega arith;
       rest = l.invariant.rest
-          ∙ from_given (start (asked i)).args.day (words_of i) l.t h.log-in.result.now l.k
-          i.loop-test.true
+          ∙ from_given (start (asked i)).args.day (words_of i) l.t h.log_in-log.result.now l.k
+          i.loop-k-test.true
           given
-          (rw (v.value.ensures, v.before.stamp.ensures) at c.add-entry.ensures);
+          (rw (v.value.ensures, v.before.stamp.ensures) at c.add_entry-t.ensures);
     }
 
-returns-4 : tie.Need-returns-4 invariant-loop decreases-loop
-returns-4 c = sym (c.before.loop.invariant.rest ∙ from_end _ _ _ _ _ c.loop-test.false)
+returns : tie.Need-returns invariant-loop-k decreases-loop-k
+returns c = sym (c.before.loop-k.invariant.rest ∙ from_end _ _ _ _ _ c.loop-k-test.false)
 
 pub tally_in_spec : {M : Type 1} → statement M
 tally_in_spec =
     tie.close
     (tie.spec
-    invariant-loop
-    decreases-loop
-    log-length-in-requires
+    invariant-loop-k
+    decreases-loop-k
+    log_length_in-l-requires
     refused-requires
-    returns
-    refused-requires-2
-    returns-2
-    log-in-requires
-    word-requires
-    fresh-requires
-    loop-holds
-    mul-m
-    shared-slice-read-m
-    refused-requires-3
-    returns-3
+    returns-then-l-ne-DONE
+    refused-requires-then-day-gt-LAST_DAY
+    returns-then-day-gt-LAST_DAY
+    log_in-log-requires
+    word-count-requires
+    fresh-t-requires
+    loop-k-init
+    offset_bounds-log-k
+    bounds-log-k
+    refused-requires-then-m-count
+    returns-then-m-count
     stamp-requires
     value-requires
-    add-entry-requires
-    add-k
-    loop-less
-    loop-again
-    returns-4)
+    add_entry-t-requires
+    overflow_add-k
+    loop-k-smaller
+    loop-k-preserved
+    returns)

@@ -10,42 +10,42 @@ use borrow.Author.Rules.{rules}
 use Rattle.file.proofs.begun.Statement.{statement}
 use Rattle.file.proofs.begun.Tie as tie
 
-returns : tie.Need-returns
+returns-then-s-gt65536 : tie.Need-returns-then-s-gt65536
 unfolding begun
-returns c = rw (lt-leb _ 65536 c.if1.true)
+returns-then-s-gt65536 c = rw (lt-leb _ 65536 c.if-s-gt65536.true)
 
-returns-2 : tie.Need-returns-2
+returns-then-s-lt8 : tie.Need-returns-then-s-lt8
 unfolding begun
-returns-2 c =
+returns-then-s-lt8 c =
     let s = c.before.before.before.args.s.now in
     let short : length s < 8 = omega arith in
-    rw (le-leb _ 65536 c.before.if1.false, lt-leb _ _ short)
+    rw (le-leb _ 65536 c.before.if-s-gt65536.false, lt-leb _ _ short)
 
-word-at-requires : tie.Need-word-at-requires
-word-at-requires c κs = search rules
+word_at-requires : tie.Need-word_at-requires
+word_at-requires c κs = search rules
 
-returns-3 : tie.Need-returns-3
+returns-then-word_at-ne6 : tie.Need-returns-then-word_at-ne6
 unfolding begun
-returns-3 c =
+returns-then-word_at-ne6 c =
     rw (
-      le-leb _ 65536 c.before.before.before.if1.false,
-      ne_eqb _ 6 (λ e. c.if3.true (c.before.word-at.ensures ∙ e)),
+      le-leb _ 65536 c.before.before.before.if-s-gt65536.false,
+      ne_eqb _ 6 (λ e. c.if-word_at-ne6.true (c.before.word_at.ensures ∙ e)),
       and-false,
     )
 
-word-at-requires-2 : tie.Need-word-at-requires-2
-word-at-requires-2 c κs = search rules
+word_at-requires-2 : tie.Need-word_at-requires-2
+word_at-requires-2 c κs = search rules
 
-returns-4 : tie.Need-returns-4
+returns : tie.Need-returns
 unfolding begun
-returns-4 c =
+returns c =
     rw (
-      c.word-at2.ensures,
-      le-leb _ 65536 c.before.before.before.before.if1.false,
-      le-leb 8 _ c.before.before.before.if2.false,
-      eq-eqb _ 6 (sym c.before.before.word-at.ensures ∙ c.before.if3.false),
+      c.word_at-2.ensures,
+      le-leb _ 65536 c.before.before.before.before.if-s-gt65536.false,
+      le-leb 8 _ c.before.before.before.if-s-lt8.false,
+      eq-eqb _ 6 (sym c.before.before.word_at.ensures ∙ c.before.if-word_at-ne6.false),
     )
 
 pub begun_spec : {M : Type 1} → statement M
 begun_spec =
-    tie.close (tie.spec returns returns-2 word-at-requires returns-3 word-at-requires-2 returns-4)
+    tie.close (tie.spec returns-then-s-gt65536 returns-then-s-lt8 word_at-requires returns-then-word_at-ne6 word_at-requires-2 returns)

@@ -9,102 +9,102 @@ use borrow.Author.Rules.{rules}
 use Rattle.file.proofs.find_at.Statement.{statement}
 use Rattle.file.proofs.find_at.Tie as tie
 
-cut : (c : tie.Else2) → let a = c.before.before.before.before.args in well_cut a.s.now a.i ≡ true
-cut c = sym c.before.well-cut.ensures ∙ not-false _ c.if2.false
+cut : (c : tie.Else-not-well_cut) → let a = c.before.before.before.before.args in well_cut a.s.now a.i ≡ true
+cut c = sym c.before.well_cut.ensures ∙ c.if-not-well_cut.false
 
-returns : tie.Need-returns
-returns c = finds_end _ _ c.if1.true
+returns-then-s-i : tie.Need-returns-then-s-i
+returns-then-s-i c = finds_end _ _ c.if-s-i.true
 
-well-cut-requires : tie.Need-well-cut-requires
-well-cut-requires c κs = search rules
+well_cut-requires : tie.Need-well_cut-requires
+well_cut-requires c κs = search rules
 
-returns-2 : tie.Need-returns-2
-returns-2 c =
-    finds_cut _ _ c.before.before.if1.false (sym c.before.well-cut.ensures ∙ not-true _ c.if2.true)
+returns-then-not-well_cut : tie.Need-returns-then-not-well_cut
+returns-then-not-well_cut c =
+    finds_cut _ _ c.before.before.if-s-i.false (sym c.before.well_cut.ensures ∙ c.if-not-well_cut.true)
 
-add-word-at : tie.Need-overflow-add-word-at
-add-word-at c = search rules
+overflow_add-i : tie.Need-overflow_add-i
+overflow_add-i c = search rules
 
-word-at-requires : tie.Need-word-at-requires
-word-at-requires c κs = search rules
+word_at-kind-requires : tie.Need-word_at-kind-requires
+word_at-kind-requires c κs = search rules
 
-record-length-requires : tie.Need-record-length-requires
-record-length-requires c κs = search rules
+record_length-length-requires : tie.Need-record_length-length-requires
+record_length-length-requires c κs = search rules
 
-returns-3 : tie.Need-returns-3
-returns-3 c =
+returns-then-length-eq0 : tie.Need-returns-then-length-eq0
+returns-then-length-eq0 c =
     let n = c.before in
     let e2 = n.before.before in
-    finds_unknown _ _ e2.before.before.if1.false (cut e2) _ n.before.word-at.ensures
-    (sym n.record-length.ensures ∙ c.if3.true)
+    finds_unknown _ _ e2.before.before.if-s-i.false (cut e2) _ n.before.word_at-kind.ensures
+    (sym n.record_length-length.ensures ∙ c.if-length-eq0.true)
 
-returns-4 : tie.Need-returns-4
-returns-4 c =
+returns-then-kind-eq-OPEN : tie.Need-returns-then-kind-eq-OPEN
+returns-then-kind-eq-OPEN c =
     let k = c.before.before.before in
     let e2 = k.before in
-    finds_open _ _ e2.before.before.if1.false (cut e2) _ k.word-at.ensures c.if4.true
+    finds_open _ _ e2.before.before.if-s-i.false (cut e2) _ k.word_at-kind.ensures c.if-kind-eq-OPEN.true
 
-word-at-requires-2 : tie.Need-word-at-requires-2
-word-at-requires-2 c κs = search rules
+word_at-requires : tie.Need-word_at-requires
+word_at-requires c κs = search rules
 
-returns-5 : tie.Need-returns-5
-returns-5 c =
+returns-then-word_at-length : tie.Need-returns-then-word_at-length
+returns-then-word_at-length c =
     let e4 = c.before.before in
     let e3 = e4.before in
     let n = e3.before in
     let e2 = n.before.before in
-    finds_another_length _ _ e2.before.before.if1.false (cut e2) _ n.before.word-at.ensures
-    (λ q. e3.if3.false (n.record-length.ensures ∙ q)) e4.if4.false
-    (λ q. c.if5.true (c.before.word-at2.ensures ∙ q ∙ sym n.record-length.ensures))
+    finds_another_length _ _ e2.before.before.if-s-i.false (cut e2) _ n.before.word_at-kind.ensures
+    (λ q. e3.if-length-eq0.false (n.record_length-length.ensures ∙ q)) e4.if-kind-eq-OPEN.false
+    (λ q. c.if-word_at-length.true (c.before.word_at.ensures ∙ q ∙ sym n.record_length-length.ensures))
 
-number-at-requires : tie.Need-number-at-requires
-number-at-requires c κs = search rules
+number_at-requires : tie.Need-number_at-requires
+number_at-requires c κs = search rules
 
-number-at-requires-2 : tie.Need-number-at-requires-2
-number-at-requires-2 c κs = search rules
+number_at-requires-2 : tie.Need-number_at-requires-2
+number_at-requires-2 c κs = search rules
 
-number-at-requires-3 : tie.Need-number-at-requires-3
-number-at-requires-3 c κs = search rules
+number_at-requires-3 : tie.Need-number_at-requires-3
+number_at-requires-3 c κs = search rules
 
-add-t5 : tie.Need-overflow-add-t5
-add-t5 c = search rules
+overflow_add-result : tie.Need-overflow_add-result
+overflow_add-result c = search rules
 
-cast-t11 : tie.Need-overflow-cast-t11
-cast-t11 c = search rules
+overflow_cast-result : tie.Need-overflow_cast-result
+overflow_cast-result c = search rules
 
-add-t12 : tie.Need-overflow-add-t12
-add-t12 c = search rules
+overflow_add-result-2 : tie.Need-overflow_add-result-2
+overflow_add-result-2 c = search rules
 
-returns-6 : tie.Need-returns-6
-returns-6 c =
+returns : tie.Need-returns
+returns c =
     let e5 = c.before.before.before in
     let e4 = e5.before.before in
     let e3 = e4.before in
     let n = e3.before in
     let e2 = n.before.before in
-    let is = n.record-length.ensures in
-    rw (c.before.before.number_at.ensures, c.before.number-at2.ensures, c.number-at3.ensures, is)
-    (finds_record _ _ e2.before.before.if1.false (cut e2) _ n.before.word-at.ensures
-    (λ q. e3.if3.false (is ∙ q)) e4.if4.false (sym e5.before.word-at2.ensures ∙ e5.if5.false ∙ is))
+    let is = n.record_length-length.ensures in
+    rw (c.before.before.number_at.ensures, c.before.number_at-2.ensures, c.number_at-3.ensures, is)
+    (finds_record _ _ e2.before.before.if-s-i.false (cut e2) _ n.before.word_at-kind.ensures
+    (λ q. e3.if-length-eq0.false (is ∙ q)) e4.if-kind-eq-OPEN.false (sym e5.before.word_at.ensures ∙ e5.if-word_at-length.false ∙ is))
 
 pub find_at_spec : {M : Type 1} → statement M
 find_at_spec =
     tie.close
     (tie.spec
-    returns
-    well-cut-requires
-    returns-2
-    add-word-at
-    word-at-requires
-    record-length-requires
-    returns-3
-    returns-4
-    word-at-requires-2
-    returns-5
-    number-at-requires
-    number-at-requires-2
-    number-at-requires-3
-    add-t5
-    cast-t11
-    add-t12
-    returns-6)
+    returns-then-s-i
+    well_cut-requires
+    returns-then-not-well_cut
+    overflow_add-i
+    word_at-kind-requires
+    record_length-length-requires
+    returns-then-length-eq0
+    returns-then-kind-eq-OPEN
+    word_at-requires
+    returns-then-word_at-length
+    number_at-requires
+    number_at-requires-2
+    number_at-requires-3
+    overflow_add-result
+    overflow_cast-result
+    overflow_add-result-2
+    returns)

@@ -8,66 +8,66 @@ use Rattle.loargwen.proofs.loargwen_open.Statement.{statement}
 use Rattle.loargwen.proofs.loargwen_open.Tie as tie
 
 -- from where the opening has answered: where the words were loaded, the test of the length before it, the beginning
-abbrev loaded : tie.After-open → tie.After-load
+abbrev loaded : tie.After-open-r → tie.After-load
 loaded c = c.before.before.before
 
-abbrev test : tie.After-open → tie.Else1
-test c = (loaded c).before.before.before
+abbrev test : tie.After-open-r → tie.Else-bank-ne-BYTES
+test c = (loaded c).before.before
 
-abbrev start : tie.After-open → tie.Start
+abbrev start : tie.After-open-r → tie.Start
 start c = (test c).before.before
 
 -- what the opening answers is its answer on the bank that the bytes stand for
-called : (c : tie.After-open) → let a = (start c).args in
-    Called a.bank.now (answer c.«open».result c.«open».new.0)
+called : (c : tie.After-open-r) → let a = (start c).args in
+    Called a.bank.now (answer c.open-r.result c.open-r.new.bank)
     (open_of paper (words_of a.bank.now) a.n a.mode)
 called c = record {
-  whole = (test c).if1.false;
-  same = rw (loaded c).load.ensures at c.«open».ensures;
+  whole = (test c).if-bank-ne-BYTES.false;
+  same = rw (loaded c).load.ensures at c.open-r.ensures;
 }
 
 -- where the opening has answered, from where the bytes are written back
-abbrev reply : tie.After-write-back → tie.After-open
+abbrev reply : tie.After-write_back → tie.After-open-r
 reply c = c.before.before.before.before
 
-returns : tie.Need-returns
-returns c = rw (no_bank _ c.if1.true)
+returns-then-bank-ne-BYTES : tie.Need-returns-then-bank-ne-BYTES
+returns-then-bank-ne-BYTES c = rw (no_bank _ c.if-bank-ne-BYTES.true)
 
-slice-aggregate-load : tie.Need-slice-aggregate-load
-slice-aggregate-load c = search rules
+slice_bounds-load-end : tie.Need-slice_bounds-load-end
+slice_bounds-load-end c = search rules
 
 load-requires : tie.Need-load-requires
 load-requires c κs = search rules
 
-slice-aggregate-open : tie.Need-slice-aggregate-open
-slice-aggregate-open c = search rules
+slice_bounds-open-end : tie.Need-slice_bounds-open-end
+slice_bounds-open-end c = search rules
 
-open-requires : tie.Need-open-requires
-open-requires c κs = search rules
+open-r-requires : tie.Need-open-r-requires
+open-r-requires c κs = search rules
 
-slice-aggregate-write-back : tie.Need-slice-aggregate-write-back
-slice-aggregate-write-back c = search rules
+slice_bounds-write_back-end : tie.Need-slice_bounds-write_back-end
+slice_bounds-write_back-end c = search rules
 
-write-back-requires : tie.Need-write-back-requires
-write-back-requires c κs = search rules
+write_back-requires : tie.Need-write_back-requires
+write_back-requires c κs = search rules
 
-same_length : tie.Need-same-length
-same_length c = search rules
+shape_of-bank : tie.Need-shape_of-bank
+shape_of-bank c = search rules
 
-returns-2 : tie.Need-returns-2
-returns-2 c =
-    let w = c.before.before in answered (called (reply w)) w.write-back.ensures
+returns : tie.Need-returns
+returns c =
+    let w = c.before.before in answered (called (reply w)) w.write_back.ensures
 
 pub loargwen_open_spec : {M : Type 1} → statement M
 loargwen_open_spec =
     tie.close
     (tie.spec
-    returns
-    slice-aggregate-load
+    returns-then-bank-ne-BYTES
+    slice_bounds-load-end
     load-requires
-    slice-aggregate-open
-    open-requires
-    slice-aggregate-write-back
-    write-back-requires
-    same_length
-    returns-2)
+    slice_bounds-open-end
+    open-r-requires
+    slice_bounds-write_back-end
+    write_back-requires
+    shape_of-bank
+    returns)

@@ -8,75 +8,75 @@ use Rattle.loargwen.proofs.loargwen_settle.Statement.{statement}
 use Rattle.loargwen.proofs.loargwen_settle.Tie as tie
 
 -- from where the settler has answered: where the words were loaded, the test of the length before it, the beginning
-abbrev loaded : tie.After-settle → tie.After-load
+abbrev loaded : tie.After-settle-s → tie.After-load
 loaded c = c.before.before.before
 
-abbrev test : tie.After-settle → tie.Else1
-test c = (loaded c).before.before.before
+abbrev test : tie.After-settle-s → tie.Else-bank-ne-BYTES
+test c = (loaded c).before.before
 
-abbrev start : tie.After-settle → tie.Start
+abbrev start : tie.After-settle-s → tie.Start
 start c = (test c).before.before
 
 -- what the settler answers is its answer on the bank that the bytes stand for
-called : (c : tie.After-settle) → let a = (start c).args in
-    let s = c.settle.result in
-    Called a.bank.now (ending s.refusal s.steps s.quiet c.settle.new.0)
+called : (c : tie.After-settle-s) → let a = (start c).args in
+    let s = c.settle-s.result in
+    Called a.bank.now (ending s.refusal s.steps s.quiet c.settle-s.new.bank)
     (settle_of paper (words_of a.bank.now) a.budget)
 called c = record {
-  whole = (test c).if1.false;
-  same = rw (loaded c).load.ensures at c.settle.ensures;
+  whole = (test c).if-bank-ne-BYTES.false;
+  same = rw (loaded c).load.ensures at c.settle-s.ensures;
 }
 
 -- where the settler has answered, from where the bytes are written back, and where they are, from the end
-abbrev reply : tie.After-write-back → tie.After-settle
+abbrev reply : tie.After-write_back → tie.After-settle-s
 reply c = c.before.before.before.before
 
-abbrev written : tie.After-flag → tie.After-write-back
+abbrev written : tie.After-flag → tie.After-write_back
 written c = c.before.before.before
 
-returns : tie.Need-returns
-returns c = rw (no_bank _ c.if1.true)
+returns-then-bank-ne-BYTES : tie.Need-returns-then-bank-ne-BYTES
+returns-then-bank-ne-BYTES c = rw (no_bank _ c.if-bank-ne-BYTES.true)
 
-slice-aggregate-load : tie.Need-slice-aggregate-load
-slice-aggregate-load c = search rules
+slice_bounds-load-end : tie.Need-slice_bounds-load-end
+slice_bounds-load-end c = search rules
 
 load-requires : tie.Need-load-requires
 load-requires c κs = search rules
 
-slice-aggregate-settle : tie.Need-slice-aggregate-settle
-slice-aggregate-settle c = search rules
+slice_bounds-settle-end : tie.Need-slice_bounds-settle-end
+slice_bounds-settle-end c = search rules
 
-settle-requires : tie.Need-settle-requires
-settle-requires c κs = search rules
+settle-s-requires : tie.Need-settle-s-requires
+settle-s-requires c κs = search rules
 
-slice-aggregate-write-back : tie.Need-slice-aggregate-write-back
-slice-aggregate-write-back c = search rules
+slice_bounds-write_back-end : tie.Need-slice_bounds-write_back-end
+slice_bounds-write_back-end c = search rules
 
-write-back-requires : tie.Need-write-back-requires
-write-back-requires c κs = search rules
+write_back-requires : tie.Need-write_back-requires
+write_back-requires c κs = search rules
 
 flag-requires : tie.Need-flag-requires
 flag-requires c κs = search rules
 
-same_length : tie.Need-same-length
-same_length c = search rules
+shape_of-bank : tie.Need-shape_of-bank
+shape_of-bank c = search rules
 
-returns-2 : tie.Need-returns-2
-returns-2 c =
+returns : tie.Need-returns
+returns c =
     let w = written c in
-    settled (called (reply w)) c.flag.ensures w.write-back.ensures
+    settled (called (reply w)) c.flag.ensures w.write_back.ensures
 
 pub loargwen_settle_spec : {M : Type 1} → statement M
 loargwen_settle_spec =
     tie.close
     (tie.spec
-    returns
-    slice-aggregate-load
+    returns-then-bank-ne-BYTES
+    slice_bounds-load-end
     load-requires
-    slice-aggregate-settle
-    settle-requires
-    slice-aggregate-write-back
-    write-back-requires
+    slice_bounds-settle-end
+    settle-s-requires
+    slice_bounds-write_back-end
+    write_back-requires
     flag-requires
-    same_length
-    returns-2)
+    shape_of-bank
+    returns)

@@ -17,124 +17,124 @@ use Rattle.report.proofs.bench.Statement.{statement}
 use Rattle.report.proofs.bench.Tie as tie
 
 -- where the group has been opened: the test of the file's beginning, which it passed, and the file's bytes
-abbrev test : tie.After-open → tie.Else1
+abbrev test : tie.After-open-refusal → tie.Else-not-begun
 test c = c.before.before.before.before
 
-abbrev file : tie.After-open → List ℕ
+abbrev file : tie.After-open-refusal → List ℕ
 file c = (test c).before.before.before.before.args.input.now
 
-is_begun : (c : tie.After-open) → begun (file c) ≡ true
-is_begun c = let e = test c in sym e.before.begun.ensures ∙ not-false _ e.if1.left
+is_begun : (c : tie.After-open-refusal) → begun (file c) ≡ true
+is_begun c = let e = test c in sym e.before.begun.ensures ∙ e.if-not-begun.false
 
-opens : (c : tie.After-open)
-    → answer c.«open».result c.«open».new.0 ≡ open_of paper blank_bank (word_at (file c) 4) (word_at (file c) 6)
+opens : (c : tie.After-open-refusal)
+    → answer c.open-refusal.result c.open-refusal.new.bank ≡ open_of paper blank_bank (word_at (file c) 4) (word_at (file c) 6)
 opens c =
-    c.«open».ensures
-    ∙ ap₂ (open_of paper blank_bank) c.before.before.word-at.ensures c.before.word-at2.ensures
+    c.open-refusal.ensures
+    ∙ ap₂ (open_of paper blank_bank) c.before.before.word_at.ensures c.before.word_at-2.ensures
 
 -- the open, from where it is not refused; the records played, from where the bank's lines are about to be printed; and
 -- those lines, from where the last one is
-abbrev opened : tie.Else2 → tie.After-open
+abbrev opened : tie.Else-refusal-ne-DONE → tie.After-open-refusal
 opened c = c.before.before
 
-abbrev played : tie.After-bank5 → tie.After-play
+abbrev played : tie.After-bank-5-1 → tie.After-play-played
 played c = c.before.before.before
 
-abbrev printed : tie.After-end-line3 → tie.After-bank-lines
+abbrev printed : tie.After-end_line-2 → tie.After-bank_lines-end
 printed c = c.before.before.before.before
 
 begun-requires : tie.Need-begun-requires
 begun-requires c κs = search rules
 
-end-line-requires : tie.Need-end-line-requires
-end-line-requires c κs = search rules
+end_line-requires : tie.Need-end_line-requires
+end_line-requires c κs = search rules
 
-same_length : tie.Need-same-length
-same_length c = search rules
+shape_of-out-then-not-begun : tie.Need-shape_of-out-then-not-begun
+shape_of-out-then-not-begun c = search rules
 
-returns : tie.Need-returns
-returns c =
+returns-then-not-begun : tie.Need-returns-then-not-begun
+returns-then-not-begun c =
     let l = c.before.before in
     let t = l.before.before in
-    let e = sym t.before.begun.ensures ∙ not-true _ t.if1.true in
+    let e = sym t.before.begun.ensures ∙ t.if-not-begun.true in
     (promised _ l.end_line.ensures (reports_unbegun _ e), omega arith)
 
-slice-aggregate-open : tie.Need-slice-aggregate-open
-slice-aggregate-open c = search rules
+slice_bounds-open-end : tie.Need-slice_bounds-open-end
+slice_bounds-open-end c = search rules
 
-word-at-requires : tie.Need-word-at-requires
-word-at-requires c κs = search rules
+word_at-requires : tie.Need-word_at-requires
+word_at-requires c κs = search rules
 
-word-at-requires-2 : tie.Need-word-at-requires-2
-word-at-requires-2 c κs = search rules
+word_at-requires-2 : tie.Need-word_at-requires-2
+word_at-requires-2 c κs = search rules
 
-open-requires : tie.Need-open-requires
-open-requires c κs = search rules
+open-refusal-requires : tie.Need-open-refusal-requires
+open-refusal-requires c κs = search rules
 
-end-line-requires-2 : tie.Need-end-line-requires-2
-end-line-requires-2 c κs = search rules
+end_line-requires-then-refusal-ne-DONE : tie.Need-end_line-requires-then-refusal-ne-DONE
+end_line-requires-then-refusal-ne-DONE c κs = search rules
 
-same-length-2 : tie.Need-same-length-2
-same-length-2 c = search rules
+shape_of-out-then-refusal-ne-DONE : tie.Need-shape_of-out-then-refusal-ne-DONE
+shape_of-out-then-refusal-ne-DONE c = search rules
 
-returns-2 : tie.Need-returns-2
-returns-2 c =
+returns-then-refusal-ne-DONE : tie.Need-returns-then-refusal-ne-DONE
+returns-then-refusal-ne-DONE c =
     let l = c.before.before in
     let t = l.before.before in
     let o = t.before.before in
-    (promised _ l.end-line2.ensures (reports_refused _ (is_begun o) (opens o) t.if2.true), omega arith)
+    (promised _ l.end_line-then-refusal-ne-DONE.ensures (reports_refused _ (is_begun o) (opens o) t.if-refusal-ne-DONE.true), omega arith)
 
-slice-aggregate-play : tie.Need-slice-aggregate-play
-slice-aggregate-play c = search rules
+slice_bounds-play-end : tie.Need-slice_bounds-play-end
+slice_bounds-play-end c = search rules
 
-play-requires : tie.Need-play-requires
-play-requires c κs = begun-length _ (is_begun (opened c.before))
+play-played-requires : tie.Need-play-played-requires
+play-played-requires c κs = begun-length _ (is_begun (opened c.before))
 
-slice-aggregate-bank-lines : tie.Need-slice-aggregate-bank-lines
-slice-aggregate-bank-lines c = search rules
+slice_bounds-bank_lines-end : tie.Need-slice_bounds-bank_lines-end
+slice_bounds-bank_lines-end c = search rules
 
-bank-lines-requires : tie.Need-bank-lines-requires
-bank-lines-requires c κs =
+bank_lines-end-requires : tie.Need-bank_lines-end-requires
+bank_lines-end-requires c κs =
     let p = played c in
     let t = p.before.before in
     let o = opened t in
-    (omega arith, fit_reported _ (is_begun o) (opens o) t.if2.left p.play.ensures)
+    (omega arith, fit_reported _ (is_begun o) (opens o) t.if-refusal-ne-DONE.false p.play-played.ensures)
 
-end-line-requires-3 : tie.Need-end-line-requires-3
-end-line-requires-3 c κs = search rules
+end_line-requires-2 : tie.Need-end_line-requires-2
+end_line-requires-2 c κs = search rules
 
-same-length-3 : tie.Need-same-length-3
-same-length-3 c = search rules
+shape_of-out : tie.Need-shape_of-out
+shape_of-out c = search rules
 
-returns-3 : tie.Need-returns-3
-returns-3 c =
+returns : tie.Need-returns
+returns c =
     let l = c.before.before in
     let b = printed l in
     let p = played b.before in
     let t = p.before.before in
     let o = opened t in
-    let both = b.bank-lines.ensures then l.end-line3.ensures in
-    (promised _ both (reports_played _ (is_begun o) (opens o) t.if2.left p.play.ensures), omega arith)
+    let both = b.bank_lines-end.ensures then l.end_line-2.ensures in
+    (promised _ both (reports_played _ (is_begun o) (opens o) t.if-refusal-ne-DONE.false p.play-played.ensures), omega arith)
 
 pub bench_spec : {M : Type 1} → statement M
 bench_spec =
     tie.close
     (tie.spec
     begun-requires
-    end-line-requires
-    same_length
-    returns
-    slice-aggregate-open
-    word-at-requires
-    word-at-requires-2
-    open-requires
-    end-line-requires-2
-    same-length-2
-    returns-2
-    slice-aggregate-play
-    play-requires
-    slice-aggregate-bank-lines
-    bank-lines-requires
-    end-line-requires-3
-    same-length-3
-    returns-3)
+    end_line-requires
+    shape_of-out-then-not-begun
+    returns-then-not-begun
+    slice_bounds-open-end
+    word_at-requires
+    word_at-requires-2
+    open-refusal-requires
+    end_line-requires-then-refusal-ne-DONE
+    shape_of-out-then-refusal-ne-DONE
+    returns-then-refusal-ne-DONE
+    slice_bounds-play-end
+    play-played-requires
+    slice_bounds-bank_lines-end
+    bank_lines-end-requires
+    end_line-requires-2
+    shape_of-out
+    returns)

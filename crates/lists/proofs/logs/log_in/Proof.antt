@@ -14,102 +14,102 @@ use Rattle.lists.proofs.logs.log_in.Statement.{statement}
 use Rattle.lists.proofs.logs.log_in.Tie as tie
 
 -- where the length is answered: the function's beginning, the layout, the bank and who is asked about
-abbrev start : tie.After-struct-known → tie.Start
+abbrev start : tie.After-struct_known-1 → tie.Start
 start c = c.before.before.before
 
-abbrev sort : tie.After-struct-known → Layout
+abbrev sort : tie.After-struct_known-1 → Layout
 sort c = layout (start c).args.room
 
-abbrev lent : tie.After-struct-known → List ℕ
+abbrev lent : tie.After-struct_known-1 → List ℕ
 lent c = (start c).args.bank.now
 
-abbrev asker : tie.After-struct-known → ℕ
+abbrev asker : tie.After-struct_known-1 → ℕ
 asker c = (start c).args.who
 
 -- where the log's beginning was asked for: the answer
-abbrev known : tie.After-log-at → tie.After-struct-known
+abbrev known : tie.After-log_at-a → tie.After-struct_known-1
 known c = c.before.before
 
-free : (c : tie.Else1) → log_refusal (sort c.before) (lent c.before) (asker c.before) ≡ 0
-free c = sym c.before.before.log-length-in.ensures.0 ∙ c.if1.false
+free : (c : tie.Else-l-ne-DONE) → log_refusal (sort c.before) (lent c.before) (asker c.before) ≡ 0
+free c = sym c.before.before.log_length_in-l.ensures.0 ∙ c.if-l-ne-DONE.false
 
 -- the part ends in the bank
-within : (c : tie.After-log-at2) → c.log-at2.result ≤ length (lent (known c.before))
+within : (c : tie.After-log_at-e) → c.log_at-e.result ≤ length (lent (known c.before))
 within c =
     let f = known c.before in
     let k = log-asked (sort f) (lent f) (asker f) (free c.before.before) in
     let n =
-    f.before.log-length-in.ensures.1 ∙ whole_length (sort f) (lent f) (asker f) (free c.before.before) in
+    f.before.log_length_in-l.ensures.1 ∙ whole_length (sort f) (lent f) (asker f) (free c.before.before) in
     omega (
       arith,
-      c.log-at2.ensures,
+      c.log_at-e.ensures,
       k.sound.whole,
       n,
       log-within (sort f) (asker f) (words (sort f) (lent f) (log_length (asker f)))
           (omega (arith, k.there, k.sound.few)) (omega (arith, k.short, k.sound.given)),
     )
 
-log-length-in-requires : tie.Need-log-length-in-requires
-log-length-in-requires c κs = search rules
+log_length_in-l-requires : tie.Need-log_length_in-l-requires
+log_length_in-l-requires c κs = search rules
 
-sub-result : tie.Need-overflow-sub-result
-sub-result c = search rules
+slice_bounds-result-count : tie.Need-slice_bounds-result-count
+slice_bounds-result-count c = search rules
 
-part-result-start : tie.Need-slice-bounds-result-start
-part-result-start c = search rules
+slice_bounds-result-start : tie.Need-slice_bounds-result-start
+slice_bounds-result-start c = search rules
 
-part-result-end : tie.Need-slice-bounds-result-end
-part-result-end c = search rules
+slice_bounds-result-end : tie.Need-slice_bounds-result-end
+slice_bounds-result-end c = search rules
+
+returns-then-l-ne-DONE : tie.Need-returns-then-l-ne-DONE
+returns-then-l-ne-DONE c =
+    let f = c.before.before in
+    let l = f.before.log_length_in-l.ensures in
+    sym
+    (ap (λ (k : ℕ). take k (drop (address (sort f) (log (asker f) 0)) (lent f)))
+    (no_length (sort f) (lent f) (asker f) _ refl (λ q. c.before.if-l-ne-DONE.true (l.0 ∙ q))))
+
+log_at-a-requires : tie.Need-log_at-a-requires
+log_at-a-requires c κs = search rules
+
+log_at-e-requires : tie.Need-log_at-e-requires
+log_at-e-requires c κs = search rules
+
+offset_bounds-bank-a : tie.Need-offset_bounds-bank-a
+offset_bounds-bank-a c = let h = within c in omega arith
+
+slice_bounds-result-count-2 : tie.Need-slice_bounds-result-count-2
+slice_bounds-result-count-2 c = search rules
+
+slice_bounds-result-start-2 : tie.Need-slice_bounds-result-start-2
+slice_bounds-result-start-2 c = search rules
+
+slice_bounds-result-end-2 : tie.Need-slice_bounds-result-end-2
+slice_bounds-result-end-2 c = within c
 
 returns : tie.Need-returns
 returns c =
-    let f = c.before.before in
-    let l = f.before.log-length-in.ensures in
-    sym
-    (ap (λ (k : ℕ). take k (drop (address (sort f) (log (asker f) 0)) (lent f)))
-    (no_length (sort f) (lent f) (asker f) _ refl (λ q. c.before.if1.true (l.0 ∙ q))))
-
-log-at-requires : tie.Need-log-at-requires
-log-at-requires c κs = search rules
-
-log-at-requires-2 : tie.Need-log-at-requires-2
-log-at-requires-2 c κs = search rules
-
-mul-result : tie.Need-overflow-mul-result
-mul-result c = let h = within c in omega arith
-
-sub-result-2 : tie.Need-overflow-sub-result-2
-sub-result-2 c = search rules
-
-part-result-start-2 : tie.Need-slice-bounds-result-start-2
-part-result-start-2 c = search rules
-
-part-result-end-2 : tie.Need-slice-bounds-result-end-2
-part-result-end-2 c = within c
-
-returns-2 : tie.Need-returns-2
-returns-2 c =
     let e = c.before in
     let f = known e.before in
-    let n : ℕ = f.before.log-length-in.result.length in
+    let n : ℕ = f.before.log_length_in-l.result.length in
     let a : ℕ = address (sort f) (log (asker f) 0) in
-    let k : e.log-at2.result - e.before.log-at.result ≡ n =
-    omega (arith, e.log-at2.ensures, e.before.log-at.ensures) in
-    ap₂ (λ (x y : ℕ). take x (drop y (lent f))) (k ∙ f.before.log-length-in.ensures.1) e.before.log-at.ensures
+    let k : e.log_at-e.result - e.before.log_at-a.result ≡ n =
+    omega (arith, e.log_at-e.ensures, e.before.log_at-a.ensures) in
+    ap₂ (λ (x y : ℕ). take x (drop y (lent f))) (k ∙ f.before.log_length_in-l.ensures.1) e.before.log_at-a.ensures
 
 pub log_in_spec : {M : Type 1} → statement M
 log_in_spec =
     tie.close
     (tie.spec
-    log-length-in-requires
-    sub-result
-    part-result-start
-    part-result-end
-    returns
-    log-at-requires
-    log-at-requires-2
-    mul-result
-    sub-result-2
-    part-result-start-2
-    part-result-end-2
-    returns-2)
+    log_length_in-l-requires
+    slice_bounds-result-count
+    slice_bounds-result-start
+    slice_bounds-result-end
+    returns-then-l-ne-DONE
+    log_at-a-requires
+    log_at-e-requires
+    offset_bounds-bank-a
+    slice_bounds-result-count-2
+    slice_bounds-result-start-2
+    slice_bounds-result-end-2
+    returns)

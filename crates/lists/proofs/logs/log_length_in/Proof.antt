@@ -13,55 +13,55 @@ use Rattle.lists.proofs.logs.log_length_in.Statement.{statement}
 use Rattle.lists.proofs.logs.log_length_in.Tie as tie
 
 -- where the bank's fitness is answered: the function's beginning
-abbrev start : tie.After-fit-in → tie.Start
+abbrev start : tie.After-fit_in → tie.Start
 start c = c.before.before
 
 -- the layout, the bank and who is asked about
-abbrev sort : tie.After-fit-in → Layout
+abbrev sort : tie.After-fit_in → Layout
 sort c = layout (start c).args.room
 
-abbrev lent : tie.After-fit-in → List ℕ
+abbrev lent : tie.After-fit_in → List ℕ
 lent c = (start c).args.bank.now
 
-abbrev asker : tie.After-fit-in → ℕ
+abbrev asker : tie.After-fit_in → ℕ
 asker c = (start c).args.who
 
 -- where the bank is fit
-sound : (c : tie.Else1) → fit (sort c.before) (lent c.before) ≡ true
-sound c = sym c.before.fit-in.ensures ∙ not-false _ c.if1.false
+sound : (c : tie.Else-not-fit_in) → fit (sort c.before) (lent c.before) ≡ true
+sound c = sym c.before.fit_in.ensures ∙ c.if-not-fit_in.false
 
-fit-in-requires : tie.Need-fit-in-requires
-fit-in-requires c κs = search rules
+fit_in-requires : tie.Need-fit_in-requires
+fit_in-requires c κs = search rules
 
-returns : tie.Need-returns
-returns c =
+returns-then-not-fit_in : tie.Need-returns-then-not-fit_in
+returns-then-not-fit_in c =
     let f = c.before in
-    let e = log_unfit (sort f) (lent f) (asker f) (sym f.fit-in.ensures ∙ not-true _ c.if1.true) in
+    let e = log_unfit (sort f) (lent f) (asker f) (sym f.fit_in.ensures ∙ c.if-not-fit_in.true) in
     (sym e, sym (no_length (sort f) (lent f) (asker f) 1 e (λ z. omega arith)))
 
 word-requires : tie.Need-word-requires
 word-requires c κs = search rules
 
-returns-2 : tie.Need-returns-2
-returns-2 c =
+returns-then-who-word : tie.Need-returns-then-who-word
+returns-then-who-word c =
     let t = c.before.before in
     let f = t.before in
-    let absent = le-ltb _ _ (rw c.before.word.ensures at c.if2.true) in
+    let absent = le-ltb _ _ (rw c.before.word.ensures at c.if-who-word.true) in
     let e = log-absent (sort f) (lent f) (asker f) (sound t) absent in
     (sym e, sym (no_length (sort f) (lent f) (asker f) 3 e (λ z. omega arith)))
 
 logged-requires : tie.Need-logged-requires
 logged-requires c κs = search rules
 
-returns-3 : tie.Need-returns-3
-returns-3 c =
+returns : tie.Need-returns
+returns c =
     let p = c.before in
     let t = p.before.before in
     let f = t.before in
-    let there = lt-ltb _ _ (rw p.before.word.ensures at p.if2.false) in
+    let there = lt-ltb _ _ (rw p.before.word.ensures at p.if-who-word.false) in
     let e = log_there (sort f) (lent f) (asker f) (sound t) there in
     (sym e, c.logged.ensures ∙ sym (whole_length (sort f) (lent f) (asker f) e))
 
 pub log_length_in_spec : {M : Type 1} → statement M
 log_length_in_spec =
-    tie.close (tie.spec fit-in-requires returns word-requires returns-2 logged-requires returns-3)
+    tie.close (tie.spec fit_in-requires returns-then-not-fit_in word-requires returns-then-who-word logged-requires returns)

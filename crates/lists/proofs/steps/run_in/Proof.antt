@@ -24,169 +24,169 @@ record Turn (room : Bool) (bank₀ steps bank : List ℕ) (i accepted : ℕ) : T
   as_long : length bank ≡ length bank₀
   rest : run_of (layout room) bank₀ steps ≡ run_from (layout room) accepted bank (drop i steps)
 
-abbrev invariant-loop : tie.invariant-loop
-invariant-loop bank₀ room steps i₀ accepted₀ bank i accepted = Turn room bank₀ steps bank i accepted
+abbrev invariant-loop-i : tie.invariant-loop-i
+invariant-loop-i bank₀ room steps i₀ accepted₀ bank i accepted = Turn room bank₀ steps bank i accepted
 
-abbrev decreases-loop : tie.decreases-loop
-decreases-loop bank₀ room steps i₀ accepted₀ bank i accepted = length steps - i
+abbrev decreases-loop-i : tie.decreases-loop-i
+decreases-loop-i bank₀ room steps i₀ accepted₀ bank i accepted = length steps - i
 
 -- where the bank is fit: the function's beginning
-abbrev begun : tie.Else1 invariant-loop decreases-loop → tie.Start invariant-loop decreases-loop
-begun c = c.before.before.before.before.before
+abbrev begun : tie.Else-not-fit_in invariant-loop-i decreases-loop-i → tie.Start invariant-loop-i decreases-loop-i
+begun c = c.before.before.before.before
 
 -- where a step has answered, seen from where its bank is given back
-abbrev answered : tie.After-slice-known2 invariant-loop decreases-loop → tie.After-step-in invariant-loop decreases-loop
+abbrev answered : tie.After-slice_known-in-loop-i-1 invariant-loop-i decreases-loop-i → tie.After-step_in-refusal invariant-loop-i decreases-loop-i
 answered c = c.before.before
 
 -- and from there: the turn's beginning, and the function's
-abbrev turn : tie.After-slice-known2 invariant-loop decreases-loop → tie.At-loop invariant-loop decreases-loop
+abbrev turn : tie.After-slice_known-in-loop-i-1 invariant-loop-i decreases-loop-i → tie.At-loop-i invariant-loop-i decreases-loop-i
 turn c = (answered c).before.before.before.before.before.before.before
 
-abbrev start : tie.After-slice-known2 invariant-loop decreases-loop → tie.Start invariant-loop decreases-loop
+abbrev start : tie.After-slice_known-in-loop-i-1 invariant-loop-i decreases-loop-i → tie.Start invariant-loop-i decreases-loop-i
 start c = begun (turn c).before.before
 
 -- the bank was found fit
-sound : (c : tie.Else1 invariant-loop decreases-loop) → let s = (begun c).args in
+sound : (c : tie.Else-not-fit_in invariant-loop-i decreases-loop-i) → let s = (begun c).args in
     fit (layout s.room) s.bank.now ≡ true
-sound c = sym c.before.fit-in.ensures ∙ not-false _ c.if1.false
+sound c = sym c.before.fit_in.ensures ∙ c.if-not-fit_in.false
 
-fit-in-requires : tie.Need-fit-in-requires invariant-loop decreases-loop
-fit-in-requires c κs = tt
+fit_in-requires : tie.Need-fit_in-requires invariant-loop-i decreases-loop-i
+fit_in-requires c κs = tt
 
-same_length : tie.Need-same-length invariant-loop decreases-loop
-same_length c = refl
+shape_of-bank-then-not-fit_in : tie.Need-shape_of-bank-then-not-fit_in invariant-loop-i decreases-loop-i
+shape_of-bank-then-not-fit_in c = refl
 
-returns : tie.Need-returns invariant-loop decreases-loop
-returns c = sym (run_unfit _ _ _ (sym c.before.fit-in.ensures ∙ not-true _ c.if1.true))
+returns-then-not-fit_in : tie.Need-returns-then-not-fit_in invariant-loop-i decreases-loop-i
+returns-then-not-fit_in c = sym (run_unfit _ _ _ (sym c.before.fit_in.ensures ∙ c.if-not-fit_in.true))
 
-same-length-2 : tie.Need-same-length-2 invariant-loop decreases-loop
-same-length-2 c = refl
+shape_of-bank-then-steps-ne0 : tie.Need-shape_of-bank-then-steps-ne0 invariant-loop-i decreases-loop-i
+shape_of-bank-then-steps-ne0 c = refl
 
-returns-2 : tie.Need-returns-2 invariant-loop decreases-loop
-returns-2 c = sym (run_ragged _ _ _ (sound c.before) c.if2.true)
+returns-then-steps-ne0 : tie.Need-returns-then-steps-ne0 invariant-loop-i decreases-loop-i
+returns-then-steps-ne0 c = sym (run_ragged _ _ _ (sound c.before) c.if-steps-ne0.true)
 
-loop-holds : tie.Need-loop-init invariant-loop decreases-loop
-loop-holds c =
+loop-i-init : tie.Need-loop-i-init invariant-loop-i decreases-loop-i
+loop-i-init c =
     record {
       inside = omega arith;
-      whole-steps = rw sub-zero c.if2.false;
+      whole-steps = rw sub-zero c.if-steps-ne0.false;
       counted = omega arith;
       as_long = refl;
-      rest = run_begins _ _ _ (sound c.before) c.if2.false;
+      rest = run_begins _ _ _ (sound c.before) c.if-steps-ne0.false;
     }
 
-mul-step-in : tie.Need-overflow-mul-step-in invariant-loop decreases-loop
-mul-step-in c = omega arith
+offset_bounds-steps-i : tie.Need-offset_bounds-steps-i invariant-loop-i decreases-loop-i
+offset_bounds-steps-i c = omega arith
 
-shared-slice-read-step-in : tie.Need-shared-slice-read-step-in invariant-loop decreases-loop
-shared-slice-read-step-in c = omega arith
+bounds-steps-i : tie.Need-bounds-steps-i invariant-loop-i decreases-loop-i
+bounds-steps-i c = omega arith
 
-add-step-in : tie.Need-overflow-add-step-in invariant-loop decreases-loop
-add-step-in c = omega arith
+overflow_add-i : tie.Need-overflow_add-i invariant-loop-i decreases-loop-i
+overflow_add-i c = omega arith
 
-mul-step-in-2 : tie.Need-overflow-mul-step-in-2 invariant-loop decreases-loop
-mul-step-in-2 c = omega arith
+offset_bounds-steps-i-in-loop-i : tie.Need-offset_bounds-steps-i-in-loop-i invariant-loop-i decreases-loop-i
+offset_bounds-steps-i-in-loop-i c = omega arith
 
-shared-slice-read-step-in-2 : tie.Need-shared-slice-read-step-in-2 invariant-loop decreases-loop
-shared-slice-read-step-in-2 c = omega arith
+bounds-steps-i-in-loop-i : tie.Need-bounds-steps-i-in-loop-i invariant-loop-i decreases-loop-i
+bounds-steps-i-in-loop-i c = omega arith
 
-add-step-in-2 : tie.Need-overflow-add-step-in-2 invariant-loop decreases-loop
-add-step-in-2 c = omega arith
+overflow_add-i-in-loop-i : tie.Need-overflow_add-i-in-loop-i invariant-loop-i decreases-loop-i
+overflow_add-i-in-loop-i c = omega arith
 
-mul-step-in-3 : tie.Need-overflow-mul-step-in-3 invariant-loop decreases-loop
-mul-step-in-3 c = omega arith
+offset_bounds-steps-i-in-loop-i-2 : tie.Need-offset_bounds-steps-i-in-loop-i-2 invariant-loop-i decreases-loop-i
+offset_bounds-steps-i-in-loop-i-2 c = omega arith
 
-shared-slice-read-step-in-3 : tie.Need-shared-slice-read-step-in-3 invariant-loop decreases-loop
-shared-slice-read-step-in-3 c = omega arith
+bounds-steps-i-in-loop-i-2 : tie.Need-bounds-steps-i-in-loop-i-2 invariant-loop-i decreases-loop-i
+bounds-steps-i-in-loop-i-2 c = omega arith
 
-add-step-in-3 : tie.Need-overflow-add-step-in-3 invariant-loop decreases-loop
-add-step-in-3 c = omega arith
+overflow_add-i-in-loop-i-2 : tie.Need-overflow_add-i-in-loop-i-2 invariant-loop-i decreases-loop-i
+overflow_add-i-in-loop-i-2 c = omega arith
 
-mul-step-in-4 : tie.Need-overflow-mul-step-in-4 invariant-loop decreases-loop
-mul-step-in-4 c = omega arith
+offset_bounds-steps-i-in-loop-i-3 : tie.Need-offset_bounds-steps-i-in-loop-i-3 invariant-loop-i decreases-loop-i
+offset_bounds-steps-i-in-loop-i-3 c = omega arith
 
-shared-slice-read-step-in-4 : tie.Need-shared-slice-read-step-in-4 invariant-loop decreases-loop
-shared-slice-read-step-in-4 c = omega arith
+bounds-steps-i-in-loop-i-3 : tie.Need-bounds-steps-i-in-loop-i-3 invariant-loop-i decreases-loop-i
+bounds-steps-i-in-loop-i-3 c = omega arith
 
-step-in-requires : tie.Need-step-in-requires invariant-loop decreases-loop
-step-in-requires c κs = tt
+step_in-refusal-requires : tie.Need-step_in-refusal-requires invariant-loop-i decreases-loop-i
+step_in-refusal-requires c κs = tt
 
-same-length-3 : tie.Need-same-length-3 invariant-loop decreases-loop
-same-length-3 c = omega arith
+shape_of-bank-then-refusal-ne-DONE : tie.Need-shape_of-bank-then-refusal-ne-DONE invariant-loop-i decreases-loop-i
+shape_of-bank-then-refusal-ne-DONE c = omega arith
 
-returns-3 : tie.Need-returns-3 invariant-loop decreases-loop
-returns-3 c =
-    let l = (turn c.before).loop in
-    let t = (answered c.before).step_in in
+returns-then-refusal-ne-DONE : tie.Need-returns-then-refusal-ne-DONE invariant-loop-i decreases-loop-i
+returns-then-refusal-ne-DONE c =
+    let l = (turn c.before).loop-i in
+    let t = (answered c.before).step_in-refusal in
     let s = (start c.before).args in
-    run_stop (layout s.room) l.accepted l.bank s.steps.now l.i t.result t.last.0 (omega arith)
+    run_stop (layout s.room) l.accepted l.bank s.steps.now l.i t.result t.new.bank (omega arith)
     t.ensures
-    c.if3.true
-    ∙ sym l.inv.rest
+    c.if-refusal-ne-DONE.true
+    ∙ sym l.invariant.rest
 
-add-accepted : tie.Need-overflow-add-accepted invariant-loop decreases-loop
-add-accepted c = omega arith
+overflow_add-accepted : tie.Need-overflow_add-accepted invariant-loop-i decreases-loop-i
+overflow_add-accepted c = omega arith
 
-add-i : tie.Need-overflow-add-i invariant-loop decreases-loop
-add-i c = omega arith
+overflow_add-i-in-loop-i-3 : tie.Need-overflow_add-i-in-loop-i-3 invariant-loop-i decreases-loop-i
+overflow_add-i-in-loop-i-3 c = omega arith
 
-loop-less : tie.Need-loop-smaller invariant-loop decreases-loop
-loop-less c = omega arith
+loop-i-smaller : tie.Need-loop-i-smaller invariant-loop-i decreases-loop-i
+loop-i-smaller c = omega arith
 
-loop-again : tie.Need-loop-preserved invariant-loop decreases-loop
-loop-again c =
-    let l = (turn c.before).loop in
-    let t = (answered c.before).step_in in
+loop-i-preserved : tie.Need-loop-i-preserved invariant-loop-i decreases-loop-i
+loop-i-preserved c =
+    let l = (turn c.before).loop-i in
+    let t = (answered c.before).step_in-refusal in
     let s = (start c.before).args in
     record {
       inside = omega arith;
       whole-steps = omega arith;
       counted = omega arith;
-      as_long = t.kept.0 ∙ l.inv.as_long;
-      rest = l.inv.rest
-          ∙ run_more (layout s.room) l.accepted l.bank s.steps.now l.i t.result t.last.0
+      as_long = t.auto.bank ∙ l.invariant.as_long;
+      rest = l.invariant.rest
+          ∙ run_more (layout s.room) l.accepted l.bank s.steps.now l.i t.result t.new.bank
           (omega arith)
           t.ensures
-          c.if3.false;
+          c.if-refusal-ne-DONE.false;
     }
 
-same-length-4 : tie.Need-same-length-4 invariant-loop decreases-loop
-same-length-4 c = omega arith
+shape_of-bank : tie.Need-shape_of-bank invariant-loop-i decreases-loop-i
+shape_of-bank c = omega arith
 
-returns-4 : tie.Need-returns-4 invariant-loop decreases-loop
-returns-4 c =
-    let l = c.before.loop in
+returns : tie.Need-returns invariant-loop-i decreases-loop-i
+returns c =
+    let l = c.before.loop-i in
     sym (l.invariant.rest ∙ run_end _ l.accepted l.bank _ l.i (omega arith))
 
 pub run_in_spec : {M : Type 1} → statement M
 run_in_spec =
     tie.close
     (tie.spec
-    invariant-loop
-    decreases-loop
-    fit-in-requires
-    same_length
-    returns
-    same-length-2
-    returns-2
-    loop-holds
-    mul-step-in
-    shared-slice-read-step-in
-    add-step-in
-    mul-step-in-2
-    shared-slice-read-step-in-2
-    add-step-in-2
-    mul-step-in-3
-    shared-slice-read-step-in-3
-    add-step-in-3
-    mul-step-in-4
-    shared-slice-read-step-in-4
-    step-in-requires
-    same-length-3
-    returns-3
-    add-accepted
-    add-i
-    loop-less
-    loop-again
-    same-length-4
-    returns-4)
+    invariant-loop-i
+    decreases-loop-i
+    fit_in-requires
+    shape_of-bank-then-not-fit_in
+    returns-then-not-fit_in
+    shape_of-bank-then-steps-ne0
+    returns-then-steps-ne0
+    loop-i-init
+    offset_bounds-steps-i
+    bounds-steps-i
+    overflow_add-i
+    offset_bounds-steps-i-in-loop-i
+    bounds-steps-i-in-loop-i
+    overflow_add-i-in-loop-i
+    offset_bounds-steps-i-in-loop-i-2
+    bounds-steps-i-in-loop-i-2
+    overflow_add-i-in-loop-i-2
+    offset_bounds-steps-i-in-loop-i-3
+    bounds-steps-i-in-loop-i-3
+    step_in-refusal-requires
+    shape_of-bank-then-refusal-ne-DONE
+    returns-then-refusal-ne-DONE
+    overflow_add-accepted
+    overflow_add-i-in-loop-i-3
+    loop-i-smaller
+    loop-i-preserved
+    shape_of-bank
+    returns)

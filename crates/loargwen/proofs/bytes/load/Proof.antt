@@ -17,87 +17,87 @@ record Turn (bytes words₀ words : List ℕ) (k : ℕ) : Type 0 where
   as_long : length words ≡ length words₀
   written : words ≡ over (words_of bytes) words₀ k
 
-abbrev invariant-loop : tie.invariant-loop
-invariant-loop bytes words₀ k₀ words k = Turn bytes words₀ words k
+abbrev invariant-loop-k : tie.invariant-loop-k
+invariant-loop-k bytes words₀ k₀ words k = Turn bytes words₀ words k
 
-abbrev decreases-loop : tie.decreases-loop
-decreases-loop bytes words₀ k₀ words k = length words₀ - k
+abbrev decreases-loop-k : tie.decreases-loop-k
+decreases-loop-k bytes words₀ k₀ words k = length words₀ - k
 
 -- the function's beginning, from the loop's; in a turn, where its word is made, the turn's beginning
-abbrev start : tie.At-loop invariant-loop decreases-loop → tie.Start invariant-loop decreases-loop
+abbrev start : tie.At-loop-k invariant-loop-k decreases-loop-k → tie.Start invariant-loop-k decreases-loop-k
 start c = c.before.before.before
 
-abbrev turn : tie.After-word invariant-loop decreases-loop → tie.At-loop invariant-loop decreases-loop
+abbrev turn : tie.After-word invariant-loop-k decreases-loop-k → tie.At-loop-k invariant-loop-k decreases-loop-k
 turn c = c.before.before.before.before
 
-loop-holds : tie.Need-loop-init invariant-loop decreases-loop
-loop-holds c = record { inside = omega arith; as_long = refl; written = refl }
+loop-k-init : tie.Need-loop-k-init invariant-loop-k decreases-loop-k
+loop-k-init c = record { inside = omega arith; as_long = refl; written = refl }
 
-mul-word : tie.Need-overflow-mul-word invariant-loop decreases-loop
-mul-word c = omega arith
+overflow_mul-k : tie.Need-overflow_mul-k invariant-loop-k decreases-loop-k
+overflow_mul-k c = omega arith
 
-shared-slice-read-word : tie.Need-shared-slice-read-word invariant-loop decreases-loop
-shared-slice-read-word c = omega arith
+bounds-bytes-k : tie.Need-bounds-bytes-k invariant-loop-k decreases-loop-k
+bounds-bytes-k c = omega arith
 
-mul-word-2 : tie.Need-overflow-mul-word-2 invariant-loop decreases-loop
-mul-word-2 c = omega arith
+overflow_mul-k-in-loop-k : tie.Need-overflow_mul-k-in-loop-k invariant-loop-k decreases-loop-k
+overflow_mul-k-in-loop-k c = omega arith
 
-add-word : tie.Need-overflow-add-word invariant-loop decreases-loop
-add-word c = omega arith
+overflow_add-k : tie.Need-overflow_add-k invariant-loop-k decreases-loop-k
+overflow_add-k c = omega arith
 
-shared-slice-read-word-2 : tie.Need-shared-slice-read-word-2 invariant-loop decreases-loop
-shared-slice-read-word-2 c = omega arith
+bounds-bytes-k-in-loop-k : tie.Need-bounds-bytes-k-in-loop-k invariant-loop-k decreases-loop-k
+bounds-bytes-k-in-loop-k c = omega arith
 
-word-requires : tie.Need-word-requires invariant-loop decreases-loop
+word-requires : tie.Need-word-requires invariant-loop-k decreases-loop-k
 word-requires c κs = tt
 
-mul_words : tie.Need-overflow-mul-words invariant-loop decreases-loop
-mul_words c = omega arith
+offset_bounds-words-k : tie.Need-offset_bounds-words-k invariant-loop-k decreases-loop-k
+offset_bounds-words-k c = omega arith
 
-slice-write-words : tie.Need-slice-write-words invariant-loop decreases-loop
-slice-write-words c = omega arith
+bounds-words-k : tie.Need-bounds-words-k invariant-loop-k decreases-loop-k
+bounds-words-k c = omega arith
 
-add-k : tie.Need-overflow-add-k invariant-loop decreases-loop
-add-k c = omega arith
+overflow_add-k-in-loop-k : tie.Need-overflow_add-k-in-loop-k invariant-loop-k decreases-loop-k
+overflow_add-k-in-loop-k c = omega arith
 
-loop-less : tie.Need-loop-smaller invariant-loop decreases-loop
-loop-less c = omega arith
+loop-k-smaller : tie.Need-loop-k-smaller invariant-loop-k decreases-loop-k
+loop-k-smaller c = omega arith
 
-loop-again : tie.Need-loop-preserved invariant-loop decreases-loop
-loop-again c =
-    let l = (turn c).loop in
+loop-k-preserved : tie.Need-loop-k-preserved invariant-loop-k decreases-loop-k
+loop-k-preserved c =
+    let l = (turn c).loop-k in
     let a = (start (turn c)).args in
     let more = load_more a.bytes.now a.words.now l.k (omega arith) (omega arith) in
     record {
       inside = omega arith;
-      as_long = simp length-set l.inv.as_long;
-      written = rw (c.word.ensures, l.inv.written) more;
+      as_long = simp length-set l.invariant.as_long;
+      written = rw (c.word.ensures, l.invariant.written) more;
     }
 
-same_length : tie.Need-same-length invariant-loop decreases-loop
-same_length c = c.before.loop.invariant.as_long
+shape_of-words : tie.Need-shape_of-words invariant-loop-k decreases-loop-k
+shape_of-words c = c.before.loop-k.invariant.as_long
 
-returns : tie.Need-returns invariant-loop decreases-loop
+returns : tie.Need-returns invariant-loop-k decreases-loop-k
 returns c =
-    let l = c.before.loop in l.invariant.written ∙ load_all _ _ l.k (start c.before).pre (omega arith)
+    let l = c.before.loop-k in l.invariant.written ∙ load_all _ _ l.k (start c.before).requires (omega arith)
 
 pub load_spec : {M : Type 1} → statement M
 load_spec =
     tie.close
     (tie.spec
-    invariant-loop
-    decreases-loop
-    loop-holds
-    mul-word
-    shared-slice-read-word
-    mul-word-2
-    add-word
-    shared-slice-read-word-2
+    invariant-loop-k
+    decreases-loop-k
+    loop-k-init
+    overflow_mul-k
+    bounds-bytes-k
+    overflow_mul-k-in-loop-k
+    overflow_add-k
+    bounds-bytes-k-in-loop-k
     word-requires
-    mul_words
-    slice-write-words
-    add-k
-    loop-less
-    loop-again
-    same_length
+    offset_bounds-words-k
+    bounds-words-k
+    overflow_add-k-in-loop-k
+    loop-k-smaller
+    loop-k-preserved
+    shape_of-words
     returns)

@@ -16,52 +16,52 @@ record Turn (words bytes₀ bytes : List ℕ) (k : ℕ) : Type 0 where
   as_long : length bytes ≡ length bytes₀
   written : bytes ≡ over (bytes_of words) bytes₀ (2 * k)
 
-abbrev invariant-loop : tie.invariant-loop
-invariant-loop words bytes₀ k₀ bytes k = Turn words bytes₀ bytes k
+abbrev invariant-loop-k : tie.invariant-loop-k
+invariant-loop-k words bytes₀ k₀ bytes k = Turn words bytes₀ bytes k
 
-abbrev decreases-loop : tie.decreases-loop
-decreases-loop words bytes₀ k₀ bytes k = length words - k
+abbrev decreases-loop-k : tie.decreases-loop-k
+decreases-loop-k words bytes₀ k₀ bytes k = length words - k
 
-loop-holds : tie.Need-loop-init invariant-loop decreases-loop
-loop-holds c = record { inside = omega arith; as_long = refl; written = refl }
+loop-k-init : tie.Need-loop-k-init invariant-loop-k decreases-loop-k
+loop-k-init c = record { inside = omega arith; as_long = refl; written = refl }
 
-mul-w : tie.Need-overflow-mul-w invariant-loop decreases-loop
-mul-w c = omega arith
+offset_bounds-words-k : tie.Need-offset_bounds-words-k invariant-loop-k decreases-loop-k
+offset_bounds-words-k c = omega arith
 
-shared-slice-read-w : tie.Need-shared-slice-read-w invariant-loop decreases-loop
-shared-slice-read-w c = omega arith
+bounds-words-k : tie.Need-bounds-words-k invariant-loop-k decreases-loop-k
+bounds-words-k c = omega arith
 
-cast-bytes : tie.Need-overflow-cast-bytes invariant-loop decreases-loop
-cast-bytes c = omega arith
+overflow_cast-bytes : tie.Need-overflow_cast-bytes invariant-loop-k decreases-loop-k
+overflow_cast-bytes c = omega arith
 
-mul-bytes : tie.Need-overflow-mul-bytes invariant-loop decreases-loop
-mul-bytes c = omega arith
+overflow_mul-bytes : tie.Need-overflow_mul-bytes invariant-loop-k decreases-loop-k
+overflow_mul-bytes c = omega arith
 
-slice-write-bytes : tie.Need-slice-write-bytes invariant-loop decreases-loop
-slice-write-bytes c = omega arith
+bounds-bytes-k : tie.Need-bounds-bytes-k invariant-loop-k decreases-loop-k
+bounds-bytes-k c = omega arith
 
-cast-bytes-2 : tie.Need-overflow-cast-bytes-2 invariant-loop decreases-loop
-cast-bytes-2 c = omega (arith, c.shared-slice-known.given c.before.before.loop.k)
+overflow_cast-bytes-in-loop-k : tie.Need-overflow_cast-bytes-in-loop-k invariant-loop-k decreases-loop-k
+overflow_cast-bytes-in-loop-k c = omega (arith, c.shared_slice_known-1.given c.before.before.loop-k.k)
 
-mul-bytes-2 : tie.Need-overflow-mul-bytes-2 invariant-loop decreases-loop
-mul-bytes-2 c = omega arith
+overflow_mul-bytes-in-loop-k : tie.Need-overflow_mul-bytes-in-loop-k invariant-loop-k decreases-loop-k
+overflow_mul-bytes-in-loop-k c = omega arith
 
-add-bytes : tie.Need-overflow-add-bytes invariant-loop decreases-loop
-add-bytes c = omega arith
+overflow_add-bytes : tie.Need-overflow_add-bytes invariant-loop-k decreases-loop-k
+overflow_add-bytes c = omega arith
 
-slice-write-bytes-2 : tie.Need-slice-write-bytes-2 invariant-loop decreases-loop
-slice-write-bytes-2 c = simp length-set (omega arith)
+bounds-bytes-k-in-loop-k : tie.Need-bounds-bytes-k-in-loop-k invariant-loop-k decreases-loop-k
+bounds-bytes-k-in-loop-k c = simp length-set (omega arith)
 
-add-k : tie.Need-overflow-add-k invariant-loop decreases-loop
-add-k c = omega arith
+overflow_add-k : tie.Need-overflow_add-k invariant-loop-k decreases-loop-k
+overflow_add-k c = omega arith
 
-loop-less : tie.Need-loop-smaller invariant-loop decreases-loop
-loop-less c = omega arith
+loop-k-smaller : tie.Need-loop-k-smaller invariant-loop-k decreases-loop-k
+loop-k-smaller c = omega arith
 
-loop-again : tie.Need-loop-preserved invariant-loop decreases-loop
-loop-again c =
+loop-k-preserved : tie.Need-loop-k-preserved invariant-loop-k decreases-loop-k
+loop-k-preserved c =
     let t = c.before.before in
-    let l = t.loop in
+    let l = t.loop-k in
     let a = t.before.args in
     let more = store_more a.words.now a.bytes.now l.k (omega arith) (omega arith) in
     record {
@@ -70,31 +70,31 @@ loop-again c =
       written = rw l.invariant.written more;
     }
 
-same_length : tie.Need-same-length invariant-loop decreases-loop
-same_length c = c.before.loop.invariant.as_long
+shape_of-bytes : tie.Need-shape_of-bytes invariant-loop-k decreases-loop-k
+shape_of-bytes c = c.before.loop-k.invariant.as_long
 
-returns : tie.Need-returns invariant-loop decreases-loop
+returns : tie.Need-returns invariant-loop-k decreases-loop-k
 returns c =
-    let l = c.before.loop in l.invariant.written ∙ store_all _ _ l.k c.before.before.requires (omega arith)
+    let l = c.before.loop-k in l.invariant.written ∙ store_all _ _ l.k c.before.before.requires (omega arith)
 
 pub store_spec : {M : Type 1} → statement M
 store_spec =
     tie.close
     (tie.spec
-    invariant-loop
-    decreases-loop
-    loop-holds
-    mul-w
-    shared-slice-read-w
-    cast-bytes
-    mul-bytes
-    slice-write-bytes
-    cast-bytes-2
-    mul-bytes-2
-    add-bytes
-    slice-write-bytes-2
-    add-k
-    loop-less
-    loop-again
-    same_length
+    invariant-loop-k
+    decreases-loop-k
+    loop-k-init
+    offset_bounds-words-k
+    bounds-words-k
+    overflow_cast-bytes
+    overflow_mul-bytes
+    bounds-bytes-k
+    overflow_cast-bytes-in-loop-k
+    overflow_mul-bytes-in-loop-k
+    overflow_add-bytes
+    bounds-bytes-k-in-loop-k
+    overflow_add-k
+    loop-k-smaller
+    loop-k-preserved
+    shape_of-bytes
     returns)

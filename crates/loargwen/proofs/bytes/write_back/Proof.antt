@@ -8,16 +8,16 @@ use Rattle.loargwen.proofs.bytes.write_back.Tie as tie
 store-requires : tie.Need-store-requires
 store-requires c κs = search rules
 
-same_length : tie.Need-same-length
-same_length c = search rules
+shape_of-bytes : tie.Need-shape_of-bytes
+shape_of-bytes c = search rules
 
-returns : tie.Need-returns
-returns c =
+returns-then-refusal-eq-DONE : tie.Need-returns-then-refusal-eq-DONE
+returns-then-refusal-eq-DONE c =
     let stored = c.before.before in
-    stored.store.ensures ∙ sym (written _ _ stored.before.before.if1.true)
+    stored.store.ensures ∙ sym (written _ _ stored.before.before.if-refusal-eq-DONE.true)
 
-returns-2 : tie.Need-returns-2
-returns-2 c = sym (kept _ _ c.if1.false)
+returns-else-refusal-eq-DONE : tie.Need-returns-else-refusal-eq-DONE
+returns-else-refusal-eq-DONE c = sym (kept _ _ c.if-refusal-eq-DONE.false)
 
 pub write_back_spec : {M : Type 1} → statement M
-write_back_spec = tie.close (tie.spec store-requires same_length returns returns-2)
+write_back_spec = tie.close (tie.spec store-requires shape_of-bytes returns-then-refusal-eq-DONE returns-else-refusal-eq-DONE)

@@ -6,37 +6,37 @@ use Rattle.report.proofs.lines.bank_lines.Statement.{statement}
 use Rattle.report.proofs.lines.bank_lines.Tie as tie
 
 -- where the messages' lines have been printed, from where the controllers' have; the group's line, from there
-abbrev messages : tie.After-controller-lines → tie.After-message-lines
+abbrev messages : tie.After-controller_lines → tie.After-message_lines-controllers
 messages c = c.before.before.before.before
 
-abbrev group : tie.After-message-lines → tie.After-group-line
+abbrev group : tie.After-message_lines-controllers → tie.After-group_line-messages
 group c = c.before.before.before.before
 
-group-line-requires : tie.Need-group-line-requires
-group-line-requires c κs = search rules
+group_line-messages-requires : tie.Need-group_line-messages-requires
+group_line-messages-requires c κs = search rules
 
-message-lines-requires : tie.Need-message-lines-requires
-message-lines-requires c κs = search rules
+message_lines-controllers-requires : tie.Need-message_lines-controllers-requires
+message_lines-controllers-requires c κs = search rules
 
-controller-lines-requires : tie.Need-controller-lines-requires
-controller-lines-requires c κs = search rules
+controller_lines-requires : tie.Need-controller_lines-requires
+controller_lines-requires c κs = search rules
 
-same_length : tie.Need-same-length
-same_length c = search rules
+shape_of-out : tie.Need-shape_of-out
+shape_of-out c = search rules
 
 returns : tie.Need-returns
 unfolding bank_lines
 returns c =
     let l = c.before.before in
     let m = messages l in
-    (group m).group-line.ensures then m.message-lines.ensures then l.controller-lines.ensures
+    (group m).group_line-messages.ensures then m.message_lines-controllers.ensures then l.controller_lines.ensures
 
 pub bank_lines_spec : {M : Type 1} → statement M
 bank_lines_spec =
     tie.close
     (tie.spec
-    group-line-requires
-    message-lines-requires
-    controller-lines-requires
-    same_length
+    group_line-messages-requires
+    message_lines-controllers-requires
+    controller_lines-requires
+    shape_of-out
     returns)

@@ -9,55 +9,47 @@ use Rattle.report.proofs.lines.group_line.Statement.{statement}
 use Rattle.report.proofs.lines.group_line.Tie as tie
 
 -- where the mode is printed, from where the line ends, and where N is, from there
-abbrev mode : tie.After-put → tie.After-number2
+abbrev mode : tie.After-put → tie.After-number-end
 mode c = c.before.before.before.before
 
-abbrev size : tie.After-number2 → tie.After-number
-size c = c.before.before.before.before.before.before
-
-slice-aggregate-number : tie.Need-slice-aggregate-number
-slice-aggregate-number c = search rules
+abbrev size : tie.After-number-end → tie.After-number-mode
+size c = c.before.before.before.before.before.before.before
 
 word-requires : tie.Need-word-requires
 word-requires c κs = search rules
 
-number-requires : tie.Need-number-requires
-number-requires c κs = search rules
-
-slice-aggregate-number-2 : tie.Need-slice-aggregate-number-2
-slice-aggregate-number-2 c = search rules
+number-mode-requires : tie.Need-number-mode-requires
+number-mode-requires c κs = search rules
 
 word-requires-2 : tie.Need-word-requires-2
 word-requires-2 c κs = search rules
 
-number-requires-2 : tie.Need-number-requires-2
-number-requires-2 c κs = search rules
+number-end-requires : tie.Need-number-end-requires
+number-end-requires c κs = search rules
 
 put-requires : tie.Need-put-requires
 put-requires c κs = search rules
 
-same_length : tie.Need-same-length
-same_length c = search rules
+shape_of-out : tie.Need-shape_of-out
+shape_of-out c = search rules
 
 returns : tie.Need-returns
 returns c =
     let end = c.before.before in
     let m = mode end in
     let n = size m in
-    as_text n.number.ensures (ap (λ w. say_group ++ decimal w) n.before.word.ensures)
-    then as_text m.number2.ensures (ap (λ w. blank ++ decimal w) m.before.word2.ensures)
+    as_text n.number-mode.ensures (ap (λ w. say_group ++ decimal w) n.before.word.ensures)
+    then as_text m.number-end.ensures (ap (λ w. blank ++ decimal w) m.before.word-2.ensures)
     then end.put.ensures
 
 pub group_line_spec : {M : Type 1} → statement M
 group_line_spec =
     tie.close
     (tie.spec
-    slice-aggregate-number
     word-requires
-    number-requires
-    slice-aggregate-number-2
+    number-mode-requires
     word-requires-2
-    number-requires-2
+    number-end-requires
     put-requires
-    same_length
+    shape_of-out
     returns)

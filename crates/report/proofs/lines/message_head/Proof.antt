@@ -9,75 +9,59 @@ use Rattle.report.proofs.lines.message_head.Statement.{statement}
 use Rattle.report.proofs.lines.message_head.Tie as tie
 
 -- where the stamp is printed, from where the value is; the sender, from there; the message's number, from there
-abbrev stamp : tie.After-number4 → tie.After-number3
-stamp c = c.before.before.before.before.before.before
+abbrev stamp : tie.After-number → tie.After-number-value
+stamp c = c.before.before.before.before.before.before.before
 
-abbrev sender : tie.After-number3 → tie.After-number2
-sender c = c.before.before.before.before.before.before
+abbrev sender : tie.After-number-value → tie.After-number-stamp
+sender c = c.before.before.before.before.before.before.before
 
-abbrev message : tie.After-number2 → tie.After-number
-message c = c.before.before.before.before.before.before
+abbrev message : tie.After-number-stamp → tie.After-number-sender
+message c = c.before.before.before.before.before.before.before
 
-slice-aggregate-number : tie.Need-slice-aggregate-number
-slice-aggregate-number c = search rules
-
-number-requires : tie.Need-number-requires
-number-requires c κs = search rules
-
-slice-aggregate-number-2 : tie.Need-slice-aggregate-number-2
-slice-aggregate-number-2 c = search rules
+number-sender-requires : tie.Need-number-sender-requires
+number-sender-requires c κs = search rules
 
 sender-requires : tie.Need-sender-requires
 sender-requires c κs = search rules
 
-number-requires-2 : tie.Need-number-requires-2
-number-requires-2 c κs = search rules
-
-slice-aggregate-number-3 : tie.Need-slice-aggregate-number-3
-slice-aggregate-number-3 c = search rules
+number-stamp-requires : tie.Need-number-stamp-requires
+number-stamp-requires c κs = search rules
 
 stamp-requires : tie.Need-stamp-requires
 stamp-requires c κs = search rules
 
-number-requires-3 : tie.Need-number-requires-3
-number-requires-3 c κs = search rules
-
-slice-aggregate-number-4 : tie.Need-slice-aggregate-number-4
-slice-aggregate-number-4 c = search rules
+number-value-requires : tie.Need-number-value-requires
+number-value-requires c κs = search rules
 
 value-requires : tie.Need-value-requires
 value-requires c κs = search rules
 
-number-requires-4 : tie.Need-number-requires-4
-number-requires-4 c κs = search rules
+number-requires : tie.Need-number-requires
+number-requires c κs = search rules
 
-same_length : tie.Need-same-length
-same_length c = search rules
+shape_of-out : tie.Need-shape_of-out
+shape_of-out c = search rules
 
 returns : tie.Need-returns
 returns c =
     let v = c.before.before in
     let t = stamp v in
     let s = sender t in
-    (message s).number.ensures
-    then as_text s.number2.ensures (ap (λ w. say_from ++ decimal w) s.before.sender.ensures)
-    then as_text t.number3.ensures (ap (λ w. say_at ++ decimal w) t.before.stamp.ensures)
-    then as_text v.number4.ensures (ap (λ w. say_value ++ decimal w) v.before.value.ensures)
+    (message s).number-sender.ensures
+    then as_text s.number-stamp.ensures (ap (λ w. say_from ++ decimal w) s.before.sender.ensures)
+    then as_text t.number-value.ensures (ap (λ w. say_at ++ decimal w) t.before.stamp.ensures)
+    then as_text v.number.ensures (ap (λ w. say_value ++ decimal w) v.before.value.ensures)
 
 pub message_head_spec : {M : Type 1} → statement M
 message_head_spec =
     tie.close
     (tie.spec
-    slice-aggregate-number
-    number-requires
-    slice-aggregate-number-2
+    number-sender-requires
     sender-requires
-    number-requires-2
-    slice-aggregate-number-3
+    number-stamp-requires
     stamp-requires
-    number-requires-3
-    slice-aggregate-number-4
+    number-value-requires
     value-requires
-    number-requires-4
-    same_length
+    number-requires
+    shape_of-out
     returns)

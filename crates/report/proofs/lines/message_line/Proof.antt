@@ -5,21 +5,21 @@ use Rattle.report.proofs.lines.message_line.Statement.{statement}
 use Rattle.report.proofs.lines.message_line.Tie as tie
 
 -- where the head has been printed, from where the sets have
-abbrev head : tie.After-message-sets → tie.After-message-head
+abbrev head : tie.After-message_sets → tie.After-message_head-held
 head c = c.before.before.before.before
 
-message-head-requires : tie.Need-message-head-requires
-message-head-requires c κs = search rules
+message_head-held-requires : tie.Need-message_head-held-requires
+message_head-held-requires c κs = search rules
 
-message-sets-requires : tie.Need-message-sets-requires
-message-sets-requires c κs = search rules
+message_sets-requires : tie.Need-message_sets-requires
+message_sets-requires c κs = search rules
 
-same_length : tie.Need-same-length
-same_length c = search rules
+shape_of-out : tie.Need-shape_of-out
+shape_of-out c = search rules
 
 returns : tie.Need-returns
-returns c = let s = c.before.before in (head s).message-head.ensures then s.message_sets.ensures
+returns c = let s = c.before.before in (head s).message_head-held.ensures then s.message_sets.ensures
 
 pub message_line_spec : {M : Type 1} → statement M
 message_line_spec =
-    tie.close (tie.spec message-head-requires message-sets-requires same_length returns)
+    tie.close (tie.spec message_head-held-requires message_sets-requires shape_of-out returns)

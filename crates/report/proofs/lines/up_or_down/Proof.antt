@@ -6,49 +6,41 @@ use Rattle.report.proofs.lines.up_or_down.Statement.{statement}
 use Rattle.report.proofs.lines.up_or_down.Tie as tie
 
 -- the test that chose the text, from where it is put: up, and down
-abbrev is_up : tie.After-put-all → tie.Then1
-is_up c = c.before.before.before
+abbrev is_up : tie.After-put_all → tie.Then-up
+is_up c = c.before.before.before.before
 
-abbrev is_down : tie.After-put-all2 → tie.Else1
-is_down c = c.before.before.before
+abbrev is_down : tie.After-put_all-else-up → tie.Else-up
+is_down c = c.before.before.before.before
 
-slice-aggregate-put-all : tie.Need-slice-aggregate-put-all
-slice-aggregate-put-all c = search rules
+put_all-requires : tie.Need-put_all-requires
+put_all-requires c κs = search rules
 
-put-all-requires : tie.Need-put-all-requires
-put-all-requires c κs = search rules
+put_all-requires-else-up : tie.Need-put_all-requires-else-up
+put_all-requires-else-up c κs = search rules
 
-slice-aggregate-put-all-2 : tie.Need-slice-aggregate-put-all-2
-slice-aggregate-put-all-2 c = search rules
+shape_of-out-then-up : tie.Need-shape_of-out-then-up
+shape_of-out-then-up c = search rules
 
-put-all-requires-2 : tie.Need-put-all-requires-2
-put-all-requires-2 c κs = search rules
-
-same_length : tie.Need-same-length
-same_length c = search rules
-
-returns : tie.Need-returns
-returns c =
+returns-then-up : tie.Need-returns-then-up
+returns-then-up c =
     let p = c.before.before in
-    rw (is_up p).if1.true (bounded p.put_all_lem.ensures (omega arith))
+    rw (is_up p).if-up.true (bounded p.put_all.ensures (omega arith))
 
-same-length-2 : tie.Need-same-length-2
-same-length-2 c = search rules
+shape_of-out-else-up : tie.Need-shape_of-out-else-up
+shape_of-out-else-up c = search rules
 
-returns-2 : tie.Need-returns-2
-returns-2 c =
+returns-else-up : tie.Need-returns-else-up
+returns-else-up c =
     let p = c.before.before in
-    rw (is_down p).if1.false p.put-all2.ensures
+    rw (is_down p).if-up.false p.put_all-else-up.ensures
 
 pub up_or_down_spec : {M : Type 1} → statement M
 up_or_down_spec =
     tie.close
     (tie.spec
-    slice-aggregate-put-all
-    put-all-requires
-    slice-aggregate-put-all-2
-    put-all-requires-2
-    same_length
-    returns
-    same-length-2
-    returns-2)
+    put_all-requires
+    put_all-requires-else-up
+    shape_of-out-then-up
+    returns-then-up
+    shape_of-out-else-up
+    returns-else-up)

@@ -13,41 +13,41 @@ digit : {m : ℕ} {out : List ℕ} {at x y r : ℕ} {out' : List ℕ} → Prints
 digit p e = as_text p (ap (λ d. d ∷ []) e)
 
 -- where the third digit has been put, from where the last has; the second, from there; the first, from there
-abbrev third : tie.After-put4 → tie.After-put3
+abbrev third : tie.After-put → tie.After-put-last
 third c = c.before.before.before.before.before
 
-abbrev second : tie.After-put3 → tie.After-put2
+abbrev second : tie.After-put-last → tie.After-put-third
 second c = c.before.before.before.before.before
 
-abbrev first : tie.After-put2 → tie.After-put
+abbrev first : tie.After-put-third → tie.After-put-second
 first c = c.before.before.before.before.before
 
-hex-digit-requires : tie.Need-hex-digit-requires
-hex-digit-requires c κs = search rules
+hex_digit-requires : tie.Need-hex_digit-requires
+hex_digit-requires c κs = search rules
+
+put-second-requires : tie.Need-put-second-requires
+put-second-requires c κs = search rules
+
+hex_digit-requires-2 : tie.Need-hex_digit-requires-2
+hex_digit-requires-2 c κs = search rules
+
+put-third-requires : tie.Need-put-third-requires
+put-third-requires c κs = search rules
+
+hex_digit-requires-3 : tie.Need-hex_digit-requires-3
+hex_digit-requires-3 c κs = search rules
+
+put-last-requires : tie.Need-put-last-requires
+put-last-requires c κs = search rules
+
+hex_digit-requires-4 : tie.Need-hex_digit-requires-4
+hex_digit-requires-4 c κs = search rules
 
 put-requires : tie.Need-put-requires
 put-requires c κs = search rules
 
-hex-digit-requires-2 : tie.Need-hex-digit-requires-2
-hex-digit-requires-2 c κs = search rules
-
-put-requires-2 : tie.Need-put-requires-2
-put-requires-2 c κs = search rules
-
-hex-digit-requires-3 : tie.Need-hex-digit-requires-3
-hex-digit-requires-3 c κs = search rules
-
-put-requires-3 : tie.Need-put-requires-3
-put-requires-3 c κs = search rules
-
-hex-digit-requires-4 : tie.Need-hex-digit-requires-4
-hex-digit-requires-4 c κs = search rules
-
-put-requires-4 : tie.Need-put-requires-4
-put-requires-4 c κs = search rules
-
-same_length : tie.Need-same-length
-same_length c = search rules
+shape_of-out : tie.Need-shape_of-out
+shape_of-out c = search rules
 
 returns : tie.Need-returns
 returns c =
@@ -55,22 +55,22 @@ returns c =
     let p3 = third p4 in
     let p2 = second p3 in
     let p1 = first p2 in
-    digit p1.put.ensures p1.before.hex-digit.ensures
-    then digit p2.put2.ensures p2.before.hex-digit2.ensures
-    then digit p3.put3.ensures p3.before.hex-digit3.ensures
-    then digit p4.put4.ensures p4.before.hex-digit4.ensures
+    digit p1.put-second.ensures p1.before.hex_digit.ensures
+    then digit p2.put-third.ensures p2.before.hex_digit-2.ensures
+    then digit p3.put-last.ensures p3.before.hex_digit-3.ensures
+    then digit p4.put.ensures p4.before.hex_digit-4.ensures
 
 pub hex_spec : {M : Type 1} → statement M
 hex_spec =
     tie.close
     (tie.spec
-    hex-digit-requires
+    hex_digit-requires
+    put-second-requires
+    hex_digit-requires-2
+    put-third-requires
+    hex_digit-requires-3
+    put-last-requires
+    hex_digit-requires-4
     put-requires
-    hex-digit-requires-2
-    put-requires-2
-    hex-digit-requires-3
-    put-requires-3
-    hex-digit-requires-4
-    put-requires-4
-    same_length
+    shape_of-out
     returns)

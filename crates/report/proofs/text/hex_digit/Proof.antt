@@ -4,24 +4,24 @@ use borrow.Author.Rules.{rules}
 use Rattle.report.proofs.text.hex_digit.Statement.{statement}
 use Rattle.report.proofs.text.hex_digit.Tie as tie
 
-cast-result : tie.Need-overflow-cast-result
-cast-result c = search rules
+overflow_cast-result : tie.Need-overflow_cast-result
+overflow_cast-result c = search rules
 
-add-result : tie.Need-overflow-add-result
-add-result c = search rules
+overflow_add-result : tie.Need-overflow_add-result
+overflow_add-result c = search rules
 
-cast-result-2 : tie.Need-overflow-cast-result-2
-cast-result-2 c = search rules
+overflow_cast-result-else-x-lt10 : tie.Need-overflow_cast-result-else-x-lt10
+overflow_cast-result-else-x-lt10 c = search rules
 
-add-result-2 : tie.Need-overflow-add-result-2
-add-result-2 c = search rules
+overflow_add-result-else-x-lt10 : tie.Need-overflow_add-result-else-x-lt10
+overflow_add-result-else-x-lt10 c = search rules
 
-returns : tie.Need-returns
-returns c = rw (lt-ltb c.before.args.x 10 c.if1.true)
+returns-then-x-lt10 : tie.Need-returns-then-x-lt10
+returns-then-x-lt10 c = rw (lt-ltb c.before.args.x 10 c.if-x-lt10.true)
 
-returns-2 : tie.Need-returns-2
-returns-2 c = rw (le-ltb c.before.args.x 10 c.if1.false)
+returns-else-x-lt10 : tie.Need-returns-else-x-lt10
+returns-else-x-lt10 c = rw (le-ltb c.before.args.x 10 c.if-x-lt10.false)
 
 pub hex_digit_spec : {M : Type 1} → statement M
 hex_digit_spec =
-    tie.close (tie.spec cast-result add-result cast-result-2 add-result-2 returns returns-2)
+    tie.close (tie.spec overflow_cast-result overflow_add-result overflow_cast-result-else-x-lt10 overflow_add-result-else-x-lt10 returns-then-x-lt10 returns-else-x-lt10)

@@ -5,20 +5,20 @@ use Rattle.report.proofs.text.number.Statement.{statement}
 use Rattle.report.proofs.text.number.Tie as tie
 
 -- where the name has been put, from where the digits are printed
-abbrev name : tie.After-decimal → tie.After-put-all
+abbrev name : tie.After-decimal → tie.After-put_all-first
 name c = c.before.before.before.before
 
-put-all-requires : tie.Need-put-all-requires
-put-all-requires c κs = search rules
+put_all-first-requires : tie.Need-put_all-first-requires
+put_all-first-requires c κs = search rules
 
 decimal-requires : tie.Need-decimal-requires
 decimal-requires c κs = search rules
 
-same_length : tie.Need-same-length
-same_length c = search rules
+shape_of-out : tie.Need-shape_of-out
+shape_of-out c = search rules
 
 returns : tie.Need-returns
-returns c = let d = c.before.before in (name d).put_all_lem.ensures then d.decimal.ensures
+returns c = let d = c.before.before in (name d).put_all-first.ensures then d.decimal.ensures
 
 pub number_spec : {M : Type 1} → statement M
-number_spec = tie.close (tie.spec put-all-requires decimal-requires same_length returns)
+number_spec = tie.close (tie.spec put_all-first-requires decimal-requires shape_of-out returns)

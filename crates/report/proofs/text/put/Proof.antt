@@ -6,22 +6,22 @@ use borrow.Author.Rules.{rules}
 use Rattle.report.proofs.text.put.Statement.{statement}
 use Rattle.report.proofs.text.put.Tie as tie
 
-add-next : tie.Need-overflow-add-next
-add-next c = search rules
+overflow_add-next : tie.Need-overflow_add-next
+overflow_add-next c = search rules
 
-slice-write-out : tie.Need-slice-write-out
-slice-write-out c = search rules
+bounds-out-at : tie.Need-bounds-out-at
+bounds-out-at c = search rules
 
-same_length : tie.Need-same-length
-same_length c = search rules
+shape_of-out : tie.Need-shape_of-out
+shape_of-out c = search rules
 
-returns : tie.Need-returns
-returns c = search rules
+returns-then-at-out : tie.Need-returns-then-at-out
+returns-then-at-out c = search rules
 
-returns-2 : tie.Need-returns-2
-returns-2 c =
+returns-else-at-out : tie.Need-returns-else-at-out
+returns-else-at-out c =
     let a = c.before.args in
-    record { ends = refl; leaves = sym (set_out a.out.now a.at _ c.if1.false); within = omega arith }
+    record { ends = refl; leaves = sym (set_out a.out.now a.at _ c.if-at-out.false); within = omega arith }
 
 pub put_spec : {M : Type 1} → statement M
-put_spec = tie.close (tie.spec add-next slice-write-out same_length returns returns-2)
+put_spec = tie.close (tie.spec overflow_add-next bounds-out-at shape_of-out returns-then-at-out returns-else-at-out)

@@ -7,14 +7,14 @@ use Rattle.settler.proofs.search.copies.Tie as tie
 unsent-requires : tie.Need-unsent-requires
 unsent-requires c κs = search rules
 
-in-flight-requires : tie.Need-in-flight-requires
-in-flight-requires c κs = search rules
+in_flight-requires : tie.Need-in_flight-requires
+in_flight-requires c κs = search rules
 
-returns : tie.Need-returns
-returns c = rw (eq-eqb _ 2 c.before.if1.true) c.unsent.ensures
+returns-then-kind-eq-SEND : tie.Need-returns-then-kind-eq-SEND
+returns-then-kind-eq-SEND c = rw (eq-eqb _ 2 c.before.if-kind-eq-SEND.true) c.unsent.ensures
 
-returns-2 : tie.Need-returns-2
-returns-2 c = rw (ne_eqb _ 2 c.before.if1.false) c.in-flight.ensures
+returns-else-kind-eq-SEND : tie.Need-returns-else-kind-eq-SEND
+returns-else-kind-eq-SEND c = rw (ne_eqb _ 2 c.before.if-kind-eq-SEND.false) c.in_flight.ensures
 
 pub copies_spec : {M : Type 1} → statement M
-copies_spec = tie.close (tie.spec unsent-requires in-flight-requires returns returns-2)
+copies_spec = tie.close (tie.spec unsent-requires in_flight-requires returns-then-kind-eq-SEND returns-else-kind-eq-SEND)

@@ -9,24 +9,24 @@ use Rattle.day.specs.Tallies.{tallied}
 use Rattle.day.proofs.entries.Tally.add_entry.Statement.{statement}
 use Rattle.day.proofs.entries.Tally.add_entry.Tie as tie
 
-returns : tie.Need-returns
+returns-then-stamp-day : tie.Need-returns-then-stamp-day
 unfolding day_of
-returns c =
+returns-then-stamp-day c =
     let s = c.before.args in
     sym (stop _ (ne_eqb (day_of s.stamp) s.day (λ e. omega arith)) refl)
 
-one-more-requires : tie.Need-one-more-requires
-one-more-requires c κs = search rules
+one_more-requires : tie.Need-one_more-requires
+one_more-requires c κs = search rules
 
-sum-with-requires : tie.Need-sum-with-requires
-sum-with-requires c κs = search rules
+sum_with-requires : tie.Need-sum_with-requires
+sum_with-requires c κs = search rules
 
-returns-2 : tie.Need-returns-2
+returns : tie.Need-returns
 unfolding day_of
-returns-2 c =
+returns c =
     let s = c.before.before.before.args in
-    ap₂ tallied c.before.one_more.ensures c.sum-with.ensures
+    ap₂ tallied c.before.one_more.ensures c.sum_with.ensures
     ∙ sym (pass _ (eq-eqb (day_of s.stamp) s.day (omega arith)) refl)
 
 pub add_entry_spec : {M : Type 1} → statement M
-add_entry_spec = tie.close (tie.spec returns one-more-requires sum-with-requires returns-2)
+add_entry_spec = tie.close (tie.spec returns-then-stamp-day one_more-requires sum_with-requires returns)
