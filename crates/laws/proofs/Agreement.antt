@@ -5,7 +5,7 @@ use mathlib.Core.List.{List}
 use Prim.Native.Nat.{ℕ, ◌<◌}
 use native.Mathlib.Omega.{arith}
 use Rattle.sets.specs.Set.{has, count_below}
-use Rattle.bank.specs.Place.{N, count, up, message, sender, held, delivered}
+use Rattle.bank.specs.Place.{N, count, message, sender, held, delivered}
 use Rattle.bank.specs.Layout.{Layout, words}
 use Rattle.bank.specs.Fit.{Fit}
 use Rattle.refusals.specs.Step.{Step}

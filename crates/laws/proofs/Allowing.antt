@@ -6,7 +6,7 @@ use Prim.Native.Nat.{ℕ, ◌<◌}
 use native.Mathlib.Omega.{arith}
 use borrow.Author.Tests.{lt-ltb, ltb-true, eq-eqb, eqb-true, not-true}
 use Rattle.sets.specs.Set.{has}
-use Rattle.bank.specs.Place.{Field, Place, Words, N, mode, count, up, view, log_length, message}
+use Rattle.bank.specs.Place.{Field, Place, Words, N, mode, count, view, log_length, message}
 use Rattle.bank.specs.Place.{held, delivered, acked, unsent, in_flight}
 use Rattle.bank.specs.Layout.{Layout, words, PlaceIn, FieldIn}
 use Rattle.bank.specs.Fit.{Fit}

@@ -13,15 +13,15 @@ overflow_shl-result : tie.Need-overflow_shl-result
 overflow_shl-result c = search rules
 
 overflow_sub-result : tie.Need-overflow_sub-result
-overflow_sub-result c = rw (shl_one _ c.if-n-lt16.true) (pow_pos _)
+overflow_sub-result c = rw (shl_one _ c.if-n-lt-ALL.true) (pow_pos _)
 
-returns-then-n-lt16 : tie.Need-returns-then-n-lt16
+returns-then-n-lt-ALL : tie.Need-returns-then-n-lt-ALL
 unfolding all_below
-returns-then-n-lt16 c = let h : c.before.args.n ≤ 16 = omega arith in rw (shl_one _ c.if-n-lt16.true, min-eq_left h)
+returns-then-n-lt-ALL c = let h : c.before.args.n ≤ 16 = omega arith in rw (shl_one _ c.if-n-lt-ALL.true, min-eq_left h)
 
-returns-else-n-lt16 : tie.Need-returns-else-n-lt16
+returns-else-n-lt-ALL : tie.Need-returns-else-n-lt-ALL
 unfolding all_below
-returns-else-n-lt16 c = rw (min-eq_right c.if-n-lt16.false)
+returns-else-n-lt-ALL c = rw (min-eq_right c.if-n-lt-ALL.false)
 
 pub all_below_spec : {M : Type 1} → statement M
-all_below_spec = tie.close (tie.spec overflow_shl-result overflow_sub-result returns-then-n-lt16 returns-else-n-lt16)
+all_below_spec = tie.close (tie.spec overflow_shl-result overflow_sub-result returns-then-n-lt-ALL returns-else-n-lt-ALL)
