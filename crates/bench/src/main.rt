@@ -1,14 +1,36 @@
 // The bench: a file on standard input, its report on standard output. What the report says, report::bench promises.
 #![tactic(auto)]
 
-use libc::{STDIN_FILENO, STDOUT_FILENO};
+ghost use Rattle.std.specs.Prelude.{◌<◌, IfOk, length, take};
+ghost use Rattle.std.specs.Io.{ReadsAtMost};
+ghost use Rattle.std.specs.Io.KnownBytes.{Consumes, IsAtEnd};
 
-fn main() {
+use std::io;
+use std::io::{Print, Read};
+
+// Reads until the buffer is full or the input ends; answers how many bytes it read, which begin the buffer.
+fn read_full<R: Read>(input: &mut R, buf: &mut [u8]) -> io::Result<usize>
+    ensures in_bounds { ReadsAtMost result buf.new }
+    ensures bytes { IfOk result (λ n. Consumes (R.remaining input.old) (R.remaining input.new) (take n buf.new)) }
+    ensures end { IfOk result (λ n. n < length buf.new → IsAtEnd (R.remaining input.new)) }
+{
+    let mut n = 0;
+    while n < buf.len() {
+        let more = input.read(&mut buf[n..])?;
+        if more == 0 {
+            break;
+        }
+        n += more;
+    }
+    Ok(n)
+}
+
+fn main(rt: HostRuntime) -> io::Result<()> {
     // one byte more than a file may have, so that too long an input is seen as such
     let mut input = [0u8; 65537];
-    let n = io::read_full(STDIN_FILENO, &mut input);
+    let n = read_full(&mut rt.stdin(), &mut input)?;
     // no report is longer, so that none is cut
     let mut out = [0u8; report::MOST];
     let length = report::bench(&input[..n], &mut out);
-    io::write_all(STDOUT_FILENO, &out[..length]);
+    rt.write_all(&out[..length])
 }

@@ -9,9 +9,11 @@ mod say;
 mod settling;
 mod steps;
 
-fn main() {
-    openings::show();
-    steps::show();
-    questions::show();
-    settling::show();
+use std::io;
+
+fn main(rt: HostRuntime) -> io::Result<()> {
+    openings::show(&rt)?;
+    steps::show(&rt)?;
+    questions::show(&rt)?;
+    settling::show(&rt)
 }

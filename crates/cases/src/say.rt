@@ -1,19 +1,18 @@
 // Printing: a name and the number that a call gave back.
-use libc::STDOUT_FILENO;
+use std::io;
+use std::io::Print;
 
-pub(crate) fn number(what: &[u8], got: u64) {
-    io::write_all(STDOUT_FILENO, what);
-    io::write_all(STDOUT_FILENO, b" ");
-    io::print_decimal(STDOUT_FILENO, got);
-    io::write_all(STDOUT_FILENO, b"\n");
+pub(crate) fn number(rt: &impl Print, what: &[u8], got: u64) -> io::Result<()> {
+    rt.write_all(what)?;
+    println!(rt; " {got}")
 }
 
-pub(crate) fn refusal(what: &[u8], got: u16) {
-    number(what, got as u64);
+pub(crate) fn refusal(rt: &impl Print, what: &[u8], got: u16) -> io::Result<()> {
+    number(rt, what, got as u64)
 }
 
 // What an answer gives beside its refusal.
-pub(crate) fn part(what: &[u8], of: &[u8], got: u64) {
-    io::write_all(STDOUT_FILENO, what);
-    number(of, got);
+pub(crate) fn part(rt: &impl Print, what: &[u8], of: &[u8], got: u64) -> io::Result<()> {
+    rt.write_all(what)?;
+    number(rt, of, got)
 }

@@ -3,11 +3,13 @@ use crate::say;
 use crate::steps::{eight_more, opened};
 use bank::{Bank, FULL};
 use numbers::{Kind, Mode};
+use std::io;
+use std::io::Print;
 
-fn say_settled(what: &[u8], s: settler::Settled) {
-    say::refusal(what, s.refusal);
-    say::refusal(b"  steps", s.steps);
-    say::refusal(b"  quiet", if s.quiet { 1 } else { 0 });
+fn say_settled(rt: &impl Print, what: &[u8], s: settler::Settled) -> io::Result<()> {
+    say::refusal(rt, what, s.refusal)?;
+    say::refusal(rt, b"  steps", s.steps)?;
+    say::refusal(rt, b"  quiet", if s.quiet { 1 } else { 0 })
 }
 
 // 16 controllers with 32 broadcasts.
@@ -30,28 +32,32 @@ fn spoilt() -> [u16; Bank::WORDS] {
     bank
 }
 
-pub(crate) fn show() {
+pub(crate) fn show(rt: &impl Print) -> io::Result<()> {
     let mut bank = opened(1, Mode::ALL_ACK);
     group::step(&mut bank, Kind::BROADCAST, 0, 0, 0);
     say_settled(
+        rt,
         b"settle one message of one controller with 2",
         settler::settle(&mut bank, 2),
-    );
+    )?;
     say_settled(
+        rt,
         b"settle with exactly what is left",
         settler::settle(&mut bank, 1),
-    );
+    )?;
     say_settled(
+        rt,
         b"settle with 0 when nothing is left",
         settler::settle(&mut bank, 0),
-    );
+    )?;
     bank[Bank::COUNT] = 33;
-    say_settled(b"settle an unfit bank", settler::settle(&mut bank, 9));
+    say_settled(rt, b"settle an unfit bank", settler::settle(&mut bank, 9))?;
     let mut bank = full();
-    say_settled(b"settle a full bank", settler::settle(&mut bank, 17136));
+    say_settled(rt, b"settle a full bank", settler::settle(&mut bank, 17136))?;
     let mut bank = spoilt();
     say_settled(
+        rt,
         b"settle a full spoilt bank",
         settler::settle(&mut bank, 65535),
-    );
+    )
 }
