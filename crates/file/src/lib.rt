@@ -11,6 +11,13 @@ pub const OPEN: u16 = 16;
 
 pub const SETTLE: u16 = 17;
 
+// The first record of a file, and no later one: its kind, its length, and its bytes with the length.
+const FIRST: u16 = OPEN;
+
+const FIRST_LENGTH: u16 = 6;
+
+const FIRST_BYTES: usize = 8;
+
 // A kind, its numbers, 0 where it has none, and the place after the record.
 #[derive(Clone, Copy)]
 pub struct Record {
@@ -103,7 +110,7 @@ pub fn find_at(s: &[u8], i: usize) -> Found
     if length == 0 {
         return Found::Bad(Refusal::NO_STEP);
     }
-    if kind == OPEN {
+    if kind == FIRST {
         return Found::Bad(Refusal::NO_STEP);
     }
     if word_at(s, i) != length {
@@ -125,10 +132,10 @@ pub fn begun(s: &[u8]) -> bool
     if s.len() > 65536 {
         return false;
     }
-    if s.len() < 8 {
+    if s.len() < FIRST_BYTES {
         return false;
     }
-    if word_at(s, 0) != 6 {
+    if word_at(s, 0) != FIRST_LENGTH {
         return false;
     }
     word_at(s, 2) == OPEN

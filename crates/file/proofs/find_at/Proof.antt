@@ -37,11 +37,11 @@ returns-then-length-eq0 c =
     finds_unknown _ _ e2.before.before.if-s-i.false (cut e2) _ n.before.word_at-kind.ensures
     (sym n.record_length-length.ensures ∙ c.if-length-eq0.true)
 
-returns-then-kind-eq-OPEN : tie.Need-returns-then-kind-eq-OPEN
-returns-then-kind-eq-OPEN c =
+returns-then-kind-eq-FIRST : tie.Need-returns-then-kind-eq-FIRST
+returns-then-kind-eq-FIRST c =
     let k = c.before.before.before in
     let e2 = k.before in
-    finds_open _ _ e2.before.before.if-s-i.false (cut e2) _ k.word_at-kind.ensures c.if-kind-eq-OPEN.true
+    finds_open _ _ e2.before.before.if-s-i.false (cut e2) _ k.word_at-kind.ensures c.if-kind-eq-FIRST.true
 
 word_at-requires : tie.Need-word_at-requires
 word_at-requires c κs = search rules
@@ -53,7 +53,7 @@ returns-then-word_at-length c =
     let n = e3.before in
     let e2 = n.before.before in
     finds_another_length _ _ e2.before.before.if-s-i.false (cut e2) _ n.before.word_at-kind.ensures
-    (λ q. e3.if-length-eq0.false (n.record_length-length.ensures ∙ q)) e4.if-kind-eq-OPEN.false
+    (λ q. e3.if-length-eq0.false (n.record_length-length.ensures ∙ q)) e4.if-kind-eq-FIRST.false
     (λ q. c.if-word_at-length.true (c.before.word_at.ensures ∙ q ∙ sym n.record_length-length.ensures))
 
 number_at-requires : tie.Need-number_at-requires
@@ -84,7 +84,7 @@ returns c =
     let is = n.record_length-length.ensures in
     rw (c.before.before.number_at.ensures, c.before.number_at-2.ensures, c.number_at-3.ensures, is)
     (finds_record _ _ e2.before.before.if-s-i.false (cut e2) _ n.before.word_at-kind.ensures
-    (λ q. e3.if-length-eq0.false (is ∙ q)) e4.if-kind-eq-OPEN.false (sym e5.before.word_at.ensures ∙ e5.if-word_at-length.false ∙ is))
+    (λ q. e3.if-length-eq0.false (is ∙ q)) e4.if-kind-eq-FIRST.false (sym e5.before.word_at.ensures ∙ e5.if-word_at-length.false ∙ is))
 
 pub find_at_spec : {M : Type 1} → statement M
 find_at_spec =
@@ -97,7 +97,7 @@ find_at_spec =
     word_at-kind-requires
     record_length-length-requires
     returns-then-length-eq0
-    returns-then-kind-eq-OPEN
+    returns-then-kind-eq-FIRST
     word_at-requires
     returns-then-word_at-length
     number_at-requires
