@@ -5,7 +5,7 @@ ghost use Rattle.bank.specs.Layout;
 ghost use Rattle.bank.specs.Layout.{paper, layout, record_size, record_at, offset, address};
 
 // A bank is a run of words that the caller lends; this type carries the numbers of its layout.
-#[derive(Drop)]
+#[derive(Clone, Copy)]
 pub struct Bank {}
 
 impl Bank {
@@ -53,7 +53,7 @@ impl Bank {
 }
 
 // The seedling rack's bank: the numbers in which it differs from the full one.
-#[derive(Drop)]
+#[derive(Clone, Copy)]
 pub(crate) struct Rack {}
 
 impl Rack {

@@ -3,7 +3,7 @@ ghost use Rattle.std.specs.Prelude.{◌≡◌, ◌+◌, min};
 ghost use Rattle.day.specs.Tallies.{add_entry, empty};
 
 // How many entries of a log are a day's, and the sum of their values.
-#[derive(Drop)]
+#[derive(Clone, Copy)]
 pub struct Tally {
     pub count: u16,
     pub sum: u32,

@@ -14,7 +14,7 @@ mod entries;
 pub use entries::Tally;
 
 // The answer to a question about a day: the tally is empty where it is refused.
-#[derive(Drop)]
+#[derive(Clone, Copy)]
 pub struct DayAnswer {
     pub refusal: u16,
     pub count: u16,

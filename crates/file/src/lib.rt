@@ -29,7 +29,7 @@ pub struct Record {
 }
 
 // What stands at a place: the end, a bad record with its number, or a record.
-#[derive(Drop)]
+#[derive(Clone, Copy)]
 pub enum Found {
     End,
     Bad(u16),

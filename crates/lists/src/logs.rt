@@ -7,7 +7,7 @@ use numbers::Refusal;
 
 // A log's length, 0 where the question is refused.
 #[repr(C)]
-#[derive(Drop)]
+#[derive(Clone, Copy)]
 pub struct LogLength {
     pub refusal: u16,
     pub length: u16,

@@ -9,7 +9,7 @@ use numbers::Refusal;
 
 // How many steps were accepted, and the refusal that ended the list, or 0.
 #[repr(C)]
-#[derive(Drop)]
+#[derive(Clone, Copy)]
 pub struct Ran {
     pub accepted: usize,
     pub refusal: u16,

@@ -24,7 +24,7 @@ fn tied()
 
 // The refusal, the steps taken, and 1 where no step is left.
 #[repr(C)]
-#[derive(Drop)]
+#[derive(Clone, Copy)]
 pub struct Settled {
     pub refusal: u16,
     pub steps: u16,
@@ -33,7 +33,7 @@ pub struct Settled {
 
 // The refusal, and the count and the sum of a day.
 #[repr(C)]
-#[derive(Drop)]
+#[derive(Clone, Copy)]
 pub struct Day {
     pub refusal: u16,
     pub count: u16,

@@ -2,7 +2,7 @@
 #![tactic(auto)]
 
 // The seven kinds of step.
-#[derive(Drop)]
+#[derive(Clone, Copy)]
 pub struct Kind {}
 
 impl Kind {
@@ -21,7 +21,7 @@ impl Kind {
     pub const LOSE: u16 = 7;
 }
 
-#[derive(Drop)]
+#[derive(Clone, Copy)]
 pub struct Mode {}
 
 impl Mode {
@@ -31,7 +31,7 @@ impl Mode {
 }
 
 // What is given back: done, or why not. The C header has the same names.
-#[derive(Drop)]
+#[derive(Clone, Copy)]
 pub struct Refusal {}
 
 impl Refusal {

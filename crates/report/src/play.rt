@@ -8,7 +8,7 @@ use file::{Found, Record};
 use numbers::Refusal;
 
 // The steps applied, and the refusal or 0.
-#[derive(Drop)]
+#[derive(Clone, Copy)]
 pub(crate) struct Played {
     pub(crate) steps: u32,
     pub(crate) refusal: u16,

@@ -12,7 +12,7 @@ use numbers::Refusal;
 use search::Next;
 
 // 0 or 1, the steps taken, and whether no step is left.
-#[derive(Drop)]
+#[derive(Clone, Copy)]
 pub struct Settled {
     pub refusal: u16,
     pub steps: u16,

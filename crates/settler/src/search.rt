@@ -13,7 +13,7 @@ use bank::{Bank, Room};
 use numbers::{Kind, Mode, Refusal};
 
 // The four numbers that ask for a step.
-#[derive(Drop)]
+#[derive(Clone, Copy)]
 pub struct Move {
     pub kind: u16,
     pub a: u16,
@@ -22,7 +22,7 @@ pub struct Move {
 }
 
 // The step to take next, if one is left.
-#[derive(Drop)]
+#[derive(Clone, Copy)]
 pub enum Next {
     Quiet,
     Take(Move),
