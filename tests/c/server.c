@@ -1,5 +1,5 @@
 /*
- * Serves the archives over standard input and output, so that a program for another machine can call them.
+ * Serves the archives over standard input and output, so that a program that is not linked with them can call them.
  *
  * A request is the call's number (1 open, 2 step, 3 settle, 4 tally; on words 5 run, 6 run_steps, 7 refusal, 8
  * log_length, 9 log), four arguments, two bytes each, the numbers of the bank's bytes and of those lent beside it, the

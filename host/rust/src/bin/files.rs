@@ -64,7 +64,7 @@ fn run(program: &str, input: &[u8]) -> io::Result<Output> {
 }
 
 /// What the bench prints for a file, and how it ended if a signal ended it. A bench ends with 0 whatever the file:
-/// another status is that of a script or an emulator that could not run it.
+/// another status is that of a read or a write that failed, or of a script that could not run it.
 fn bench(program: &str, input: &[u8]) -> Result<Vec<u8>, Stop> {
     let cannot = |why: String| Stop::CannotRun(format!("'{program}' cannot be run: {why}"));
     let output = run(program, input).map_err(|error| cannot(error.to_string()))?;
