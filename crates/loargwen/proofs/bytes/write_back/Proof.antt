@@ -11,13 +11,13 @@ store-requires c κs = search rules
 shape_of-bytes : tie.Need-shape_of-bytes
 shape_of-bytes c = search rules
 
-returns-then-refusal-eq-DONE : tie.Need-returns-then-refusal-eq-DONE
-returns-then-refusal-eq-DONE c =
+returns-then-refusal-eq-WRITTEN : tie.Need-returns-then-refusal-eq-WRITTEN
+returns-then-refusal-eq-WRITTEN c =
     let stored = c.before.before in
-    stored.store.ensures ∙ sym (written _ _ stored.before.before.if-refusal-eq-DONE.true)
+    stored.store.ensures ∙ sym (written _ _ stored.before.before.if-refusal-eq-WRITTEN.true)
 
-returns-else-refusal-eq-DONE : tie.Need-returns-else-refusal-eq-DONE
-returns-else-refusal-eq-DONE c = sym (kept _ _ c.if-refusal-eq-DONE.false)
+returns-else-refusal-eq-WRITTEN : tie.Need-returns-else-refusal-eq-WRITTEN
+returns-else-refusal-eq-WRITTEN c = sym (kept _ _ c.if-refusal-eq-WRITTEN.false)
 
 pub write_back_spec : {M : Type 1} → statement M
-write_back_spec = tie.close (tie.spec store-requires shape_of-bytes returns-then-refusal-eq-DONE returns-else-refusal-eq-DONE)
+write_back_spec = tie.close (tie.spec store-requires shape_of-bytes returns-then-refusal-eq-WRITTEN returns-else-refusal-eq-WRITTEN)
