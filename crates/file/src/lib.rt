@@ -11,13 +11,6 @@ pub const OPEN: u16 = 16;
 
 pub const SETTLE: u16 = 17;
 
-// The first record of a file, and no later one: its kind, its length, and its bytes with the length.
-const FIRST: u16 = OPEN;
-
-const FIRST_LENGTH: u16 = 6;
-
-const FIRST_BYTES: usize = 8;
-
 // A kind, its numbers, 0 where it has none, and the place after the record.
 #[derive(Clone, Copy)]
 pub struct Record {
@@ -96,6 +89,7 @@ fn number_at(s: &[u8], i: usize, k: u16) -> u16
 }
 
 // What stands at place i, after the file's first record.
+#[tactic(auto, unfolding(crate::specs::Records::find_at, crate::specs::Records::record_length))]
 pub fn find_at(s: &[u8], i: usize) -> Found
     ensures { FindPromise s.now i result }
 {
@@ -110,7 +104,7 @@ pub fn find_at(s: &[u8], i: usize) -> Found
     if length == 0 {
         return Found::Bad(Refusal::NO_STEP);
     }
-    if kind == FIRST {
+    if kind == OPEN {
         return Found::Bad(Refusal::NO_STEP);
     }
     if word_at(s, i) != length {
@@ -126,16 +120,17 @@ pub fn find_at(s: &[u8], i: usize) -> Found
 }
 
 // Whether a file is short enough and begun by a whole open.
+#[tactic(auto, unfolding(crate::specs::Records::begun))]
 pub fn begun(s: &[u8]) -> bool
     ensures { BegunPromise s.now result }
 {
     if s.len() > 65536 {
         return false;
     }
-    if s.len() < FIRST_BYTES {
+    if s.len() < 8 {
         return false;
     }
-    if word_at(s, 0) != FIRST_LENGTH {
+    if word_at(s, 0) != 6 {
         return false;
     }
     word_at(s, 2) == OPEN

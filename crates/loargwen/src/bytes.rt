@@ -35,15 +35,12 @@ fn store(words: &[u16], bytes: &mut [u8])
     }
 }
 
-// The answer with which the words are written back.
-const WRITTEN: u16 = Refusal::DONE;
-
 // Writes the words back where nothing was refused.
 pub(crate) fn write_back(refusal: u16, words: &[u16], bytes: &mut [u8])
     requires { length bytes.old ≡ 2 * length words.now }
     ensures { bytes.new ≡ bytes_after bytes.old refusal words.now }
 {
-    if refusal == WRITTEN {
+    if refusal == Refusal::DONE {
         store(words, bytes);
     }
 }

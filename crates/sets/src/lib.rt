@@ -32,14 +32,12 @@ pub fn without(w: u16, i: u16) -> u16
     w - (w & bit(i))
 }
 
-// From this number on all sixteen controllers are below it.
-const ALL: u16 = 16;
-
 // All controllers below n.
+#[tactic(auto, using(crate::proofs::Words::shl_one), unfolding(crate::specs::Set::all_below))]
 pub fn all_below(n: u16) -> u16
     ensures { result ≡ Set.all_below (min n 16) }
 {
-    if n < ALL { (1 << n) - 1 } else { 65535 }
+    if n < 16 { (1 << n) - 1 } else { 65535 }
 }
 
 // The members below n alone.
