@@ -1,5 +1,6 @@
 -- Where each word stands. A layout is two numbers; every address follows from them as regions laid one after another.
-use Rattle.std.specs.Prelude.{ℕ, zero, suc, ◌+◌, ◌*◌, ◌<◌, ◌≡◌, Bool, true, false, List, [], ◌∷◌, ◌++◌, map, get_or, set}
+use Rattle.std.specs.Prelude.{ℕ, zero, suc, ◌+◌, ◌*◌, ◌<◌, ◌≡◌, Bool, true, false, List, [], ◌∷◌, ◌++◌}
+use Rattle.std.specs.Prelude.{map, get_or, set}
 use Rattle.bank.specs.Place.{Field, Place, Words, Record, Write, ◌≔◌, sender, stamp, value, held, delivered}
 use Rattle.bank.specs.Place.{acked, unsent, in_flight, N, mode, count, up, view, log_length, log, message}
 

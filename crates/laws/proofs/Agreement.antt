@@ -31,7 +31,8 @@ module _ (L : Layout) {n k : ℕ} {before : List Step} {x : List ℕ} (r : Reach
   fx = reached-fit L n k r
 
   -- the sets of a message below the count are its words'
-  shown_delivered : (m i : ℕ) → m < words L x count → ((sets_of L x).message m).delivered i ≡ has_delivered (words L x) i m
+  shown_delivered : (m i : ℕ) → m < words L x count
+      → ((sets_of L x).message m).delivered i ≡ has_delivered (words L x) i m
   unfolding sets_of sets record_sets
   shown_delivered m i l =
       ap (λ w. has w i) (seen_in L (words L x) (message m delivered) (omega (arith, fx.given), omega arith))
@@ -63,7 +64,8 @@ module _ (L : Layout) {n k : ℕ} {before : List Step} {x : List ℕ} (r : Reach
   -- ---- at the end
 
   module _ (z : Ended (Settling (Allowed L)) x) (q : Quorum L x) (m : ℕ) (g : m < words L x count) where
-    once : (j : ℕ) → is_up (words L x) j ≡ true → ((sets_of L x).message m).delivered j ≡ true → occurs m (log_of L x j) ≡ 1
+    once : (j : ℕ) → is_up (words L x) j ≡ true → ((sets_of L x).message m).delivered j ≡ true
+        → occurs m (log_of L x j) ≡ 1
     once j u d =
         (reached-logs L n k r).once j m (inside j u) g ∙ ap (λ t. cond t 1 0) (sym (shown_delivered m j g) ∙ d)
 

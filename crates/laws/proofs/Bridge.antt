@@ -99,7 +99,8 @@ abbrev pub later_in : List (Write Field) → Record → Record
 later_in [] r f = r f
 later_in (y ∷ ys) r f = later_in ys (λ g. cond (same_field y.at g) y.word (r g)) f
 
-pub sets-sent : (from to : ℕ) (r : Record) → record_sets (later_in (sent from to r) r) ≡ after_send from to (record_sets r)
+pub sets-sent : (from to : ℕ) (r : Record)
+    → record_sets (later_in (sent from to r) r) ≡ after_send from to (record_sets r)
 unfolding record_sets
 sets-sent from to r =
     λ d. record {
@@ -136,7 +137,8 @@ sets-delivered i r =
       in_flight = λ a b. has (r (in_flight a)) b;
     }
 
-pub sets-lost : (from to : ℕ) (r : Record) → record_sets (later_in (lost from to r) r) ≡ after_lose from to (record_sets r)
+pub sets-lost : (from to : ℕ) (r : Record)
+    → record_sets (later_in (lost from to r) r) ≡ after_lose from to (record_sets r)
 unfolding record_sets
 sets-lost from to r =
     λ d. record {

@@ -45,7 +45,8 @@ module _ {room : ℕ} {test : ℕ → Bool} {length : ℕ} {entry entry' : ℕ �
       joins x false q = rw or-false (add-zero _)
 
 -- what passes a test below c alone
-pub how_many-below : (test : ℕ → Bool) (c room : ℕ) → c ≤ room → how_many (λ x. ltb x c && test x) room ≡ how_many test c
+pub how_many-below : (test : ℕ → Bool) (c room : ℕ) → c ≤ room
+    → how_many (λ x. ltb x c && test x) room ≡ how_many test c
 unfolding how_many
 how_many-below test c zero l = rw (let e : c ≡ 0 = omega arith in e)
 how_many-below test c (suc n) l =

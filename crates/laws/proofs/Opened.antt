@@ -9,7 +9,8 @@ use lib.ListN.{replicate, length-replicate, get_or-replicate}
 use borrow.Author.Tests.{eqb-true, eqb-false, lt-ltb, le-ltb}
 use Rattle.sets.specs.Set.{has, all_below}
 use Rattle.sets.proofs.Members.{has-all_below, has-none}
-use Rattle.bank.specs.Place.{Place, N, mode, count, up, view, message, sender, held, delivered, acked, unsent, in_flight}
+use Rattle.bank.specs.Place.{Place, N, mode, count, up, view, message, sender, held, delivered}
+use Rattle.bank.specs.Place.{acked, unsent, in_flight}
 use Rattle.bank.specs.Layout.{Layout, size, address, words}
 use Rattle.bank.specs.Fit.{is_size}
 use Rattle.bank.specs.Opening.{views, opening, opened}

@@ -69,7 +69,8 @@ new_record n who =
     }
 
 -- another record of the same sender
-abbrev pub record_with : (r : RecordSets) (held delivered : ℕ → Bool) (acked unsent in_flight : ℕ → ℕ → Bool) → RecordSets
+abbrev pub record_with : (r : RecordSets) (held delivered : ℕ → Bool) (acked unsent in_flight : ℕ → ℕ → Bool)
+    → RecordSets
 record_with r held delivered acked unsent in_flight =
     record {
       sender = r.sender;

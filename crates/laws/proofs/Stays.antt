@@ -144,7 +144,8 @@ module _ (L : Layout) {b x : List ℕ} {es : List Step} (fb : Fit L b) (fx : Fit
       let k : ℕ = words L x (log_length i) - n in (
         map (at x) (up_from n k),
         log-entries L x fx i (omega (arith, N-kept L r))
-            ∙ ap (λ k. map (at x) (up_from 0 k)) (let s : words L x (log_length i) ≡ n + k = omega (arith, g.grows) in s)
+            ∙ ap (λ k. map (at x) (up_from 0 k))
+            (let s : words L x (log_length i) ≡ n + k = omega (arith, g.grows) in s)
             ∙ longer (at b) (at x) n k 0
             (λ j h. g.same j (omega (arith, log_short L b fb i l, fb.given)) (omega arith))
             ∙ ap₂ (λ begun j. begun ++ map (at x) (up_from j k)) (sym (log-entries L b fb i l)) (zero-add n),

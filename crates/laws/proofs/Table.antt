@@ -14,6 +14,7 @@ use Rattle.day.specs.Tallies.{add_all, all_given, tally_of}
 use Rattle.laws.specs.Table.{table, seen_after, seen_of, TableHolds}
 
 pub table-holds : TableHolds
-unfolding has with without all_below cut with_all every within how_many count_below fields opened enough refusal_of step_of
+unfolding has with without all_below cut with_all every within how_many count_below fields opened enough refusal_of
+    step_of
     run_from run_of candidates next settle_from settle_of day_of add_all all_given tally_of table seen_after seen_of
 table-holds = refl

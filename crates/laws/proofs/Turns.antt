@@ -58,7 +58,8 @@ module _ (L : Layout) (b : List ℕ) where
   log_grows : {e : Step} → SettlingKind e → Allowed L b e → (i : ℕ) → i < L.controllers
       → words L b (log_length i) ≤ words L (after L b e) (log_length i)
   log_grows (sends {from} {to} {m}) a i l = omega (arith, untouched L b (send from to m) a (log_length i) l refl)
-  log_grows (receives {i = j} {from} {m}) a i l = omega (arith, untouched L b (receive j from m) a (log_length i) l refl)
+  log_grows (receives {i = j} {from} {m}) a i l =
+      omega (arith, untouched L b (receive j from m) a (log_length i) l refl)
   log_grows (delivers {i = j} {m}) a i l =
       go (eqb j i) refl (word_after L b (deliver j m) a (log_length i) l)
     where

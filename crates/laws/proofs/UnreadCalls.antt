@@ -89,7 +89,8 @@ module _ (L : Layout) where
   unfolding settle_from
   settle-from zero k b c e f = (refl, refl, ap (λ o. on_next o true (λ s. false)) (next_same b c e f), e)
   settle-from (suc d) k b c e f =
-      subst (λ o. SameEnding L (on_next (next L b) (ending 0 k true b) (rest b)) (on_next o (ending 0 k true c) (rest c)))
+      subst (λ o. SameEnding L (on_next (next L b) (ending 0 k true b) (rest b))
+      (on_next o (ending 0 k true c) (rest c)))
       (next_same b c e f)
       (go (next L b) (next_is L b f)
       (λ s a. settle-from d (k + 1) (after L b s) (after L c s) (after_same L b c e s a) (fit-after L b s a)))

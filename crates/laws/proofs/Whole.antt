@@ -8,7 +8,8 @@ use Prim.Native.Nat.{ℕ, zero, suc, ◌+◌, ◌≤◌, ◌<◌}
 use native.Mathlib.Nat.{eq-or-lt_of_le}
 use native.Mathlib.Omega.{arith}
 use borrow.Author.Tests.{eq-eqb}
-use Rattle.bank.specs.Place.{Field, Place, Write, ◌≔◌, N, mode, count, up, view, log_length, log, message, sender, stamp}
+use Rattle.bank.specs.Place.{Field, Place, Write, ◌≔◌, N, mode, count, up, view, log_length, log}
+use Rattle.bank.specs.Place.{message, sender, stamp}
 use Rattle.bank.specs.Place.{value, held, delivered, acked, unsent, in_flight}
 use Rattle.bank.specs.Layout.{Layout, up_from, fields, in_record, FieldIn, region_in, index}
 use Rattle.bank.proofs.Places.{same_place}
@@ -82,11 +83,13 @@ module _ (L : Layout) where
   in_fields value h = Memᴰ.tail (Memᴰ.tail (Memᴰ.head refl))
   in_fields held h = Memᴰ.tail (Memᴰ.tail (Memᴰ.tail (Memᴰ.head refl)))
   in_fields delivered h = Memᴰ.tail (Memᴰ.tail (Memᴰ.tail (Memᴰ.tail (Memᴰ.head refl))))
-  in_fields (acked i) h = Memᴰ.append_right single (Memᴰ.append_left (each unsent ++ each in_flight) (in_each acked i h))
+  in_fields (acked i) h =
+      Memᴰ.append_right single (Memᴰ.append_left (each unsent ++ each in_flight) (in_each acked i h))
   in_fields (unsent i) h =
       Memᴰ.append_right single (Memᴰ.append_right (each acked) (Memᴰ.append_left (each in_flight) (in_each unsent i h)))
   in_fields (in_flight i) h =
-      Memᴰ.append_right single (Memᴰ.append_right (each acked) (Memᴰ.append_right (each unsent) (in_each in_flight i h)))
+      Memᴰ.append_right single
+      (Memᴰ.append_right (each acked) (Memᴰ.append_right (each unsent) (in_each in_flight i h)))
 
   pub record_word : (c : ℕ) (g : Field → ℕ) (f : Field) (x : ℕ) → FieldIn L f
       → later (in_record c (map (λ h. h ≔ g h) (fields L))) (message c f) x ≡ g f

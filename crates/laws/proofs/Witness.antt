@@ -182,7 +182,8 @@ module _ (k : ℕ) (es : List Step) where
 
 -- 1 hears from itself and, in all-ack, from 2, and knows that 0 is down; in majority two of three are enough
 pub worked_all_ack : WorkedLogs 1
-unfolding has with without all_below cut with_all every within how_many count_below fields opened enough refusal_of step_of
+unfolding has with without all_below cut with_all every within how_many count_below fields opened enough refusal_of
+    step_of
     run_from run_of
 worked_all_ack =
     worked 1
@@ -200,7 +201,8 @@ worked_all_ack =
     (inl refl)
 
 pub worked_majority : WorkedLogs 2
-unfolding has with without all_below cut with_all every within how_many count_below fields opened enough refusal_of step_of
+unfolding has with without all_below cut with_all every within how_many count_below fields opened enough refusal_of
+    step_of
     run_from run_of
 worked_majority =
     worked 2 (receive 1 0 0 ∷ send 1 1 0 ∷ receive 1 1 0 ∷ deliver 1 0 ∷ [])
@@ -208,7 +210,8 @@ worked_majority =
     (inr (omega arith))
 
 pub quorum_needed : QuorumNeeded
-unfolding has with without all_below cut with_all every within how_many count_below fields opened enough refusal_of step_of
+unfolding has with without all_below cut with_all every within how_many count_below fields opened enough refusal_of
+    step_of
     run_from run_of candidates Candidates.next settle_from settle_of parted_run parted_end
 quorum_needed =
     record {

@@ -73,7 +73,8 @@ high_at (w ∷ ws) (suc k) = rw (add-one, twice_suc, ← add-one (2 * k)) (high_
 
 -- one word more, as load writes it, and all of them
 pub load_more : (bs old : List ℕ) (k : ℕ) → length bs ≡ 2 * length old → k < length old
-    → set (over (words_of bs) old k) k (get_or bs (2 * k) 0 + 256 * get_or bs (2 * k + 1) 0) ≡ over (words_of bs) old (k + 1)
+    → set (over (words_of bs) old k) k (get_or bs (2 * k) 0 + 256 * get_or bs (2 * k + 1) 0)
+    ≡ over (words_of bs) old (k + 1)
 load_more bs old k e h =
     let long = length-words (length old) bs e in
     let inside : 2 * k + 1 < length bs = omega arith in
@@ -109,7 +110,8 @@ words_back (w ∷ ws) =
     let whole : w % 256 + 256 * (w / 256) ≡ w = omega arith in
     ap₂ (λ x xs. x ∷ xs) whole (words_back ws)
 
-pub bytes_back : (n : ℕ) (bs : List ℕ) → length bs ≡ 2 * n → ((i : ℕ) → get_or bs i 0 < 256) → bytes_of (words_of bs) ≡ bs
+pub bytes_back : (n : ℕ) (bs : List ℕ) → length bs ≡ 2 * n → ((i : ℕ) → get_or bs i 0 < 256)
+    → bytes_of (words_of bs) ≡ bs
 unfolding words_of bytes_of
 bytes_back n [] e small = refl
 bytes_back n (low ∷ []) e small = absurd (omega arith)

@@ -60,7 +60,8 @@ answer_left bytes new r due e = record {
 -- ---- each call that may write
 
 module _ (bytes : List ℕ) (n k : ℕ) {r : ℕ} {new : List ℕ} (e : OpenBytes bytes n k r new) where
-  pub open_left : Left bytes new r (open_of paper (words_of bytes) n k).refusal (open_of paper (words_of bytes) n k).bank
+  pub open_left : Left bytes new r (open_of paper (words_of bytes) n k).refusal
+      (open_of paper (words_of bytes) n k).bank
   open_left = answer_left bytes new r _ e
 
   pub open_refused : (r ≡ 0 → ⊥) → new ≡ bytes

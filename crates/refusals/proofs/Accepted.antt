@@ -39,7 +39,8 @@ allowed_step L b x s e q =
     (subst (λ o. asked_refusal L b o ≡ 0) q (not_refused L b x e))
 
 -- a step with unused numbers is asked for where it is not refused
-asked-unused : (L : Layout) (b : List ℕ) (t : Bool) (s : Step) → asked_refusal L b (unused t s) ≡ 0 → unused t s ≡ some s
+asked-unused : (L : Layout) (b : List ℕ) (t : Bool) (s : Step) → asked_refusal L b (unused t s) ≡ 0
+    → unused t s ≡ some s
 asked-unused L b true s e = refl
 asked-unused L b false s e = absurd (omega arith)
 

@@ -32,7 +32,7 @@ six_lines =
     48 ∷ 10 ∷ 101 ∷ 110 ∷ 100 ∷ 32 ∷ 49 ∷ 57 ∷ 32 ∷ 48 ∷ 10 ∷ []
 
 pub worked-example : bench_of worked_example ≡ six_lines
-unfolding has with without all_below cut with_all every within how_many count_below fields opened open_of enough refusal_of
-    step_of candidates next settle_from settle_of record_length find_at begun decimal_in entries lines bank_lines applied
-    play_from bench_of
+unfolding has with without all_below cut with_all every within how_many count_below fields opened open_of enough
+    refusal_of step_of candidates next settle_from settle_of record_length find_at begun decimal_in entries lines
+    bank_lines applied play_from bench_of
 worked-example = refl

@@ -88,7 +88,8 @@ module _ (L : Layout) where
 
   -- the steps are within the budget, and where one is left the budget is spent
   from_steps : (k : ℕ) (b : List ℕ) (d : ℕ)
-      → ((settle_from L k b d).steps ≤ k + d) × ((settle_from L k b d).quiet ≡ false → (settle_from L k b d).steps ≡ k + d)
+      → ((settle_from L k b d).steps ≤ k + d)
+      × ((settle_from L k b d).quiet ≡ false → (settle_from L k b d).steps ≡ k + d)
   from_steps =
       by_steps (λ k b d e. (e.steps ≤ k + d) × (e.quiet ≡ false → e.steps ≡ k + d))
       (λ k b d q. (omega arith, λ z. absurd (true≢false z)))
@@ -151,7 +152,8 @@ module _ (L : Layout) where
     quiet-settles f q = settle_begins f ∙ from_quiet 0 b d q
 
     -- of a fit bank the answer is whether a step is left, and of an unfit one it is never that none is
-    pub quiet-says : fit L b ≡ true → (settle_of L b d).quiet ≡ on_next (next L (settle_of L b d).bank) true (λ s. false)
+    pub quiet-says : fit L b ≡ true
+        → (settle_of L b d).quiet ≡ on_next (next L (settle_of L b d).bank) true (λ s. false)
     quiet-says f = rw (settle_begins f) (from_left 0 b d)
 
     pub quiet-fit : (settle_of L b d).quiet ≡ true → fit L b ≡ true

@@ -30,7 +30,8 @@ asked_by s = ask s.kind s.a s.b s.c
 
 -- the records from the i-th on, as words
 abbrev from_here : List Step → ℕ → Step → List ℕ
-from_here ss i d = (get_or ss i d).kind ∷ (get_or ss i d).a ∷ (get_or ss i d).b ∷ (get_or ss i d).c ∷ flat (drop (i + 1) ss)
+from_here ss i d = (get_or ss i d).kind ∷ (get_or ss i d).a ∷ (get_or ss i d).b ∷ (get_or ss i d).c
+    ∷ flat (drop (i + 1) ss)
 
 next_record : (ss : List Step) (i : ℕ) (d : Step) → i < length ss → flat (drop i ss) ≡ from_here ss i d
 unfolding flat

@@ -7,7 +7,8 @@ use Rattle.std.specs.declared.option.Option.{Option}
 use Rattle.std.specs.Io.KnownBytes.{Consumes}
 use Rattle.bench.proofs.read_full.Goals as goal
 
-read_more : (a b c : Option (List ℕ)) (xs ys after : List ℕ) (n m : ℕ) → n ≤ length xs → m ≤ length ys → Consumes a b (take n xs)
+read_more : (a b c : Option (List ℕ)) (xs ys after : List ℕ) (n m : ℕ) → n ≤ length xs → m ≤ length ys
+    → Consumes a b (take n xs)
     → Consumes b c (take m ys) → Consumes a c (take (n + m) (take n xs ++ (ys ++ after)))
 read_more a b c xs ys after n m within fits first second =
     let joined : take (n + m) (take n xs ++ (ys ++ after)) ≡ take n xs ++ take m ys =

@@ -41,7 +41,8 @@ start c = c.before.before.before.before
 abbrev sort : tie.Else-l-ne-DONE invariant-loop-k decreases-loop-k → Layout
 sort c = layout (start c).args.room
 
-free : (c : tie.Else-l-ne-DONE invariant-loop-k decreases-loop-k) → log_refusal (sort c) (start c).args.bank.now (start c).args.who ≡ 0
+free : (c : tie.Else-l-ne-DONE invariant-loop-k decreases-loop-k)
+    → log_refusal (sort c) (start c).args.bank.now (start c).args.who ≡ 0
 free c = sym c.before.before.log_length_in-l.ensures.0 ∙ c.if-l-ne-DONE.false
 
 -- in a turn: where the question passed, the log as it was handed back, the bank's words, and the entry looked at
@@ -58,7 +59,8 @@ abbrev entry : tie.In-loop-k invariant-loop-k decreases-loop-k → ℕ
 entry i = get_or (handed i).log_in-log.result.now i.before.loop-k.k 0
 
 -- the count as it was read
-counted : (i : tie.In-loop-k invariant-loop-k decreases-loop-k) → i.before.before.before.word-count.result ≡ words_of i count
+counted : (i : tie.In-loop-k invariant-loop-k decreases-loop-k)
+    → i.before.before.before.word-count.result ≡ words_of i count
 counted i = i.before.before.before.word-count.ensures
 
 log_length_in-l-requires : tie.Need-log_length_in-l-requires invariant-loop-k decreases-loop-k

@@ -54,4 +54,12 @@ returns c =
 
 pub well_cut_spec : {M : Type 1} → statement M
 well_cut_spec =
-    tie.close (tie.spec overflow_sub-left returns-then-left-lt2 word_at-n-requires overflow_cast-n returns-then-left-n returns-then-n-ne0 returns)
+    tie.close
+    (tie.spec
+    overflow_sub-left
+    returns-then-left-lt2
+    word_at-n-requires
+    overflow_cast-n
+    returns-then-left-n
+    returns-then-n-ne0
+    returns)

@@ -26,7 +26,8 @@ is_begun : (c : tie.After-open-refusal) → begun (file c) ≡ true
 is_begun c = let e = test c in sym e.before.begun.ensures ∙ e.if-not-begun.false
 
 opens : (c : tie.After-open-refusal)
-    → answer c.open-refusal.result c.open-refusal.new.bank ≡ open_of paper blank_bank (word_at (file c) 4) (word_at (file c) 6)
+    → answer c.open-refusal.result c.open-refusal.new.bank
+    ≡ open_of paper blank_bank (word_at (file c) 4) (word_at (file c) 6)
 opens c =
     c.open-refusal.ensures
     ∙ ap₂ (open_of paper blank_bank) c.before.before.word_at.ensures c.before.word_at-2.ensures
@@ -80,8 +81,11 @@ returns-then-refusal-ne-DONE : tie.Need-returns-then-refusal-ne-DONE
 returns-then-refusal-ne-DONE c =
     let l = c.before.before in
     let t = l.before.before in
-    let o = t.before.before in
-    (promised _ l.end_line-then-refusal-ne-DONE.ensures (reports_refused _ (is_begun o) (opens o) t.if-refusal-ne-DONE.true), omega arith)
+    let o = t.before.before in (
+      promised _ l.end_line-then-refusal-ne-DONE.ensures (reports_refused _ (is_begun o)
+          (opens o) t.if-refusal-ne-DONE.true),
+      omega arith,
+    )
 
 slice_bounds-play-end : tie.Need-slice_bounds-play-end
 slice_bounds-play-end c = search rules
@@ -112,8 +116,11 @@ returns c =
     let p = played b.before in
     let t = p.before.before in
     let o = opened t in
-    let both = b.bank_lines-end.ensures then l.end_line-2.ensures in
-    (promised _ both (reports_played _ (is_begun o) (opens o) t.if-refusal-ne-DONE.false p.play-played.ensures), omega arith)
+    let both = b.bank_lines-end.ensures then l.end_line-2.ensures in (
+      promised _ both (reports_played _ (is_begun o)
+          (opens o) t.if-refusal-ne-DONE.false p.play-played.ensures),
+      omega arith,
+    )
 
 pub bench_spec : {M : Type 1} → statement M
 bench_spec =

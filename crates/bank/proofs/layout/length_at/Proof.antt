@@ -16,4 +16,10 @@ returns-else-room : tie.Need-returns-else-room
 returns-else-room c = rw c.if-room.false
 
 pub length_at_spec : {M : Type 1} → statement M
-length_at_spec = tie.close (tie.spec overflow_add-result overflow_add-result-else-room returns-then-room returns-else-room)
+length_at_spec =
+    tie.close
+    (tie.spec
+    overflow_add-result
+    overflow_add-result-else-room
+    returns-then-room
+    returns-else-room)

@@ -23,4 +23,11 @@ returns-else-room c = rw c.if-room.false
 
 pub record_at_spec : {M : Type 1} → statement M
 record_at_spec =
-    tie.close (tie.spec overflow_mul-result overflow_add-result overflow_mul-result-else-room overflow_add-result-else-room returns-then-room returns-else-room)
+    tie.close
+    (tie.spec
+    overflow_mul-result
+    overflow_add-result
+    overflow_mul-result-else-room
+    overflow_add-result-else-room
+    returns-then-room
+    returns-else-room)

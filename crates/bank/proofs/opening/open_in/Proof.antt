@@ -50,7 +50,8 @@ size-requires : tie.Need-size-requires
 size-requires c κs = search rules
 
 returns-then-bank-size : tie.Need-returns-then-bank-size
-returns-then-bank-size c = refused _ _ _ _ 1 (rw (ne_eqb _ _ (λ e. c.if-bank-size.true (e ∙ sym c.before.size.ensures)))) (omega arith)
+returns-then-bank-size c =
+    refused _ _ _ _ 1 (rw (ne_eqb _ _ (λ e. c.if-bank-size.true (e ∙ sym c.before.size.ensures)))) (omega arith)
 
 is_size-requires : tie.Need-is_size-requires
 is_size-requires c κs = search rules

@@ -40,4 +40,10 @@ returns c =
 pub step_in_spec : {M : Type 1} → statement M
 step_in_spec =
     tie.close
-    (tie.spec refusal_in-r-requires shape_of-bank-then-r-ne-DONE returns-then-r-ne-DONE apply-requires shape_of-bank returns)
+    (tie.spec
+    refusal_in-r-requires
+    shape_of-bank-then-r-ne-DONE
+    returns-then-r-ne-DONE
+    apply-requires
+    shape_of-bank
+    returns)

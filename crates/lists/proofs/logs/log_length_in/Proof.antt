@@ -64,4 +64,11 @@ returns c =
 
 pub log_length_in_spec : {M : Type 1} → statement M
 log_length_in_spec =
-    tie.close (tie.spec fit_in-requires returns-then-not-fit_in word-requires returns-then-who-word logged-requires returns)
+    tie.close
+    (tie.spec
+    fit_in-requires
+    returns-then-not-fit_in
+    word-requires
+    returns-then-who-word
+    logged-requires
+    returns)

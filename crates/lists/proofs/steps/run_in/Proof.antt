@@ -34,14 +34,17 @@ abbrev begun : tie.Else-not-fit_in invariant-loop-i decreases-loop-i → tie.Sta
 begun c = c.before.before.before.before
 
 -- where a step has answered, seen from where its bank is given back
-abbrev answered : tie.After-slice_known-in-loop-i-1 invariant-loop-i decreases-loop-i → tie.After-step_in-refusal invariant-loop-i decreases-loop-i
+abbrev answered : tie.After-slice_known-in-loop-i-1 invariant-loop-i decreases-loop-i
+    → tie.After-step_in-refusal invariant-loop-i decreases-loop-i
 answered c = c.before.before
 
 -- and from there: the turn's beginning, and the function's
-abbrev turn : tie.After-slice_known-in-loop-i-1 invariant-loop-i decreases-loop-i → tie.At-loop-i invariant-loop-i decreases-loop-i
+abbrev turn : tie.After-slice_known-in-loop-i-1 invariant-loop-i decreases-loop-i
+    → tie.At-loop-i invariant-loop-i decreases-loop-i
 turn c = (answered c).before.before.before.before.before.before.before
 
-abbrev start : tie.After-slice_known-in-loop-i-1 invariant-loop-i decreases-loop-i → tie.Start invariant-loop-i decreases-loop-i
+abbrev start : tie.After-slice_known-in-loop-i-1 invariant-loop-i decreases-loop-i
+    → tie.Start invariant-loop-i decreases-loop-i
 start c = begun (turn c).before.before
 
 -- the bank was found fit

@@ -28,4 +28,11 @@ returns c =
 
 pub of_broadcast_spec : {M : Type 1} → statement M
 of_broadcast_spec =
-    tie.close (tie.spec actor-r-requires returns-then-r-ne-DONE word-requires messages-requires returns-then-word-messages returns)
+    tie.close
+    (tie.spec
+    actor-r-requires
+    returns-then-r-ne-DONE
+    word-requires
+    messages-requires
+    returns-then-word-messages
+    returns)

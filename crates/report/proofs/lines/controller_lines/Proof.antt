@@ -12,7 +12,8 @@ use Rattle.report.proofs.lines.controller_lines.Statement.{statement}
 use Rattle.report.proofs.lines.controller_lines.Tie as tie
 
 abbrev invariant-loop-i : tie.invariant-loop-i
-invariant-loop-i out₀ at bank n end₀ i₀ out end i = Rows 376 (controller_line bank) (words paper bank N) i out₀ at end out
+invariant-loop-i out₀ at bank n end₀ i₀ out end i =
+    Rows 376 (controller_line bank) (words paper bank N) i out₀ at end out
 
 abbrev decreases-loop-i : tie.decreases-loop-i
 decreases-loop-i out₀ at bank n end₀ i₀ out end i = words paper bank N - i
@@ -25,7 +26,8 @@ sound : (c : tie.At-loop-i invariant-loop-i decreases-loop-i) → Fit paper (sta
 sound c = (start c).requires.1
 
 -- where a turn's line has been printed: the turn's beginning
-abbrev turn : tie.After-controller_line-end invariant-loop-i decreases-loop-i → tie.At-loop-i invariant-loop-i decreases-loop-i
+abbrev turn : tie.After-controller_line-end invariant-loop-i decreases-loop-i
+    → tie.At-loop-i invariant-loop-i decreases-loop-i
 turn c = c.before.before.before
 
 word-n-requires : tie.Need-word-n-requires invariant-loop-i decreases-loop-i

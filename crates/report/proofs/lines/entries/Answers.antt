@@ -1,5 +1,5 @@
--- entries: a turn prints the next entry after the first i (`one-more_entry`), and past the last entry they are the whole
--- log's (`take_all`).
+-- entries: a turn prints the next entry after the first i (`one-more_entry`), and past the last entry they are the
+-- whole log's (`take_all`).
 use mathlib.Core.Path.{ap}
 use native.Mathlib.Omega.{arith}
 use lib.Seq.{take_all}
@@ -15,7 +15,8 @@ loop-i-init c = record { inside = omega arith; printed = nothing }
 pub loop-i-preserved : goal.loop-i-preserved
 loop-i-preserved c = record {
   inside = omega arith;
-  printed = once_more c.loop-i.i c.loop-i.invariant.printed c.number-end.ensures (one-more_entry _ c.loop-i.i c.loop-i-test.true);
+  printed = once_more c.loop-i.i c.loop-i.invariant.printed c.number-end.ensures
+      (one-more_entry _ c.loop-i.i c.loop-i-test.true);
 }
 
 pub returns : goal.returns

@@ -12,7 +12,8 @@ use Rattle.report.proofs.lines.message_lines.Statement.{statement}
 use Rattle.report.proofs.lines.message_lines.Tie as tie
 
 abbrev invariant-loop-m : tie.invariant-loop-m
-invariant-loop-m out₀ at bank n end₀ m₀ out end m = Rows 87 (message_line bank) (words paper bank count) m out₀ at end out
+invariant-loop-m out₀ at bank n end₀ m₀ out end m =
+    Rows 87 (message_line bank) (words paper bank count) m out₀ at end out
 
 abbrev decreases-loop-m : tie.decreases-loop-m
 decreases-loop-m out₀ at bank n end₀ m₀ out end m = words paper bank count - m
@@ -25,7 +26,8 @@ sound : (c : tie.At-loop-m invariant-loop-m decreases-loop-m) → Fit paper (sta
 sound c = (start c).requires.1
 
 -- where a turn's line has been printed: the turn's beginning
-abbrev turn : tie.After-message_line-end invariant-loop-m decreases-loop-m → tie.At-loop-m invariant-loop-m decreases-loop-m
+abbrev turn : tie.After-message_line-end invariant-loop-m decreases-loop-m
+    → tie.At-loop-m invariant-loop-m decreases-loop-m
 turn c = c.before.before.before
 
 word-count-requires : tie.Need-word-count-requires invariant-loop-m decreases-loop-m

@@ -44,8 +44,11 @@ shape_of-bank-then-refusal-ne-DONE c = search rules
 returns-then-refusal-ne-DONE : tie.Need-returns-then-refusal-ne-DONE
 returns-then-refusal-ne-DONE c =
     let t = stepped c.before in
-    let k = t.before.before in
-    (applies_refused _ _ (numbers k.before) k.if-r-eq-SETTLE.false t.step-refusal.ensures c.if-refusal-ne-DONE.true, omega arith)
+    let k = t.before.before in (
+      applies_refused _ _ (numbers k.before) k.if-r-eq-SETTLE.false t.step-refusal.ensures
+          c.if-refusal-ne-DONE.true,
+      omega arith,
+    )
 
 overflow_add-result-2 : tie.Need-overflow_add-result-2
 overflow_add-result-2 c = search rules
@@ -56,8 +59,11 @@ shape_of-bank c = search rules
 returns : tie.Need-returns
 returns c =
     let t = stepped c.before in
-    let k = t.before.before in
-    (applies_accepted _ _ (numbers k.before) k.if-r-eq-SETTLE.false t.step-refusal.ensures c.if-refusal-ne-DONE.false, omega arith)
+    let k = t.before.before in (
+      applies_accepted _ _
+          (numbers k.before) k.if-r-eq-SETTLE.false t.step-refusal.ensures c.if-refusal-ne-DONE.false,
+      omega arith,
+    )
 
 pub apply_spec : {M : Type 1} → statement M
 apply_spec =

@@ -24,4 +24,11 @@ returns-else-x-lt10 c = rw (le-ltb c.before.args.x 10 c.if-x-lt10.false)
 
 pub hex_digit_spec : {M : Type 1} → statement M
 hex_digit_spec =
-    tie.close (tie.spec overflow_cast-result overflow_add-result overflow_cast-result-else-x-lt10 overflow_add-result-else-x-lt10 returns-then-x-lt10 returns-else-x-lt10)
+    tie.close
+    (tie.spec
+    overflow_cast-result
+    overflow_add-result
+    overflow_cast-result-else-x-lt10
+    overflow_add-result-else-x-lt10
+    returns-then-x-lt10
+    returns-else-x-lt10)

@@ -17,4 +17,10 @@ returns-else-kind-eq-SEND : tie.Need-returns-else-kind-eq-SEND
 returns-else-kind-eq-SEND c = rw (ne_eqb _ 2 c.before.if-kind-eq-SEND.false) c.in_flight.ensures
 
 pub copies_spec : {M : Type 1} → statement M
-copies_spec = tie.close (tie.spec unsent-requires in_flight-requires returns-then-kind-eq-SEND returns-else-kind-eq-SEND)
+copies_spec =
+    tie.close
+    (tie.spec
+    unsent-requires
+    in_flight-requires
+    returns-then-kind-eq-SEND
+    returns-else-kind-eq-SEND)

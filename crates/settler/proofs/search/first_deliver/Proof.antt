@@ -44,19 +44,23 @@ abbrev lent : tie.At-loop-i invariant-loop-i decreases-loop-i → List ℕ
 lent c = (start c).args.bank.now
 
 -- where the bank's words are known to be words
-abbrev read_known : tie.At-loop-i invariant-loop-i decreases-loop-i → tie.After-shared_slice_known-1 invariant-loop-i decreases-loop-i
+abbrev read_known : tie.At-loop-i invariant-loop-i decreases-loop-i
+    → tie.After-shared_slice_known-1 invariant-loop-i decreases-loop-i
 read_known c = c.before.before.before.before.before
 
 -- N and who waits, as they were read; controller i is there
-n_read : (c : tie.At-loop-i invariant-loop-i decreases-loop-i) → c.before.before.before.before.word-n.result ≡ words (sort c) (lent c) N
+n_read : (c : tie.At-loop-i invariant-loop-i decreases-loop-i)
+    → c.before.before.before.before.word-n.result ≡ words (sort c) (lent c) N
 n_read c = c.before.before.before.before.word-n.ensures
 
-waiting : (c : tie.At-loop-i invariant-loop-i decreases-loop-i) → let w = words (sort c) (lent c) in let m = (start c).args.m in
+waiting : (c : tie.At-loop-i invariant-loop-i decreases-loop-i)
+    → let w = words (sort c) (lent c) in let m = (start c).args.m in
     c.before.less-waiting.result ≡ less (w (message m held)) (w (message m delivered))
 waiting c =
     let d = c.before.before in c.before.less-waiting.ensures ∙ ap₂ less d.before.held.ensures d.delivered.ensures
 
-there : (c : tie.In-loop-i invariant-loop-i decreases-loop-i) → c.before.loop-i.i < words (sort c.before) (lent c.before) N
+there : (c : tie.In-loop-i invariant-loop-i decreases-loop-i)
+    → c.before.loop-i.i < words (sort c.before) (lent c.before) N
 there c = rw (n_read c.before) at c.loop-i-test.true
 
 -- of one who does not wait the delivery is not free

@@ -40,14 +40,17 @@ abbrev lent : tie.At-loop-i invariant-loop-i decreases-loop-i → List ℕ
 lent c = (start c).args.bank.now
 
 -- N and the up set, as they were read
-n_read : (c : tie.At-loop-i invariant-loop-i decreases-loop-i) → c.before.before.before.before.word-n.result ≡ words (sort c) (lent c) N
+n_read : (c : tie.At-loop-i invariant-loop-i decreases-loop-i)
+    → c.before.before.before.before.word-n.result ≡ words (sort c) (lent c) N
 n_read c = c.before.before.before.before.word-n.ensures
 
-up_read : (c : tie.At-loop-i invariant-loop-i decreases-loop-i) → c.before.before.before.word-up.result ≡ words (sort c) (lent c) up
+up_read : (c : tie.At-loop-i invariant-loop-i decreases-loop-i)
+    → c.before.before.before.word-up.result ≡ words (sort c) (lent c) up
 up_read c = c.before.before.before.word-up.ensures
 
 -- where controller i is looked up: it is there, whether it is up, and the words that decide its row
-below : (c : tie.In-loop-i invariant-loop-i decreases-loop-i) → c.before.loop-i.i < words (sort c.before) (lent c.before) N
+below : (c : tie.In-loop-i invariant-loop-i decreases-loop-i)
+    → c.before.loop-i.i < words (sort c.before) (lent c.before) N
 below c = rw (n_read c.before) at c.loop-i-test.true
 
 up_there : (c : tie.After-has invariant-loop-i decreases-loop-i) → let l = c.before.before in
