@@ -1,20 +1,64 @@
-// The numbers of the two sizes of bank, and where each word stands. Nothing else looks at which size a bank has.
-ghost use Rattle.std.specs.Prelude.{◌≡◌, ◌+◌};
+// The two sizes of bank, and where each word of either stands. Nothing else knows the numbers of a size.
+ghost use Rattle.std.specs.Prelude.{◌≡◌, ◌+◌, ℕ, Bool, true, false, refl};
 ghost use Rattle.bank.specs.Place.{view, log_length, log, acked, unsent, in_flight};
 ghost use Rattle.bank.specs.Layout;
 ghost use Rattle.bank.specs.Layout.{paper, layout, record_size, record_at, offset, address};
+ghost use Rattle.bank.specs.Rooms.{Laid};
 
-// A bank is a run of words that the caller lends; this type carries the numbers of its layout.
+// A size of bank, as a type: whoever works on both takes it as a parameter.
+pub trait Room {
+    // By which the definitions tell the two sizes apart.
+    ghost room: { Bool };
+
+    ghost CONTROLLERS: { ℕ };
+
+    ghost MESSAGES: { ℕ };
+
+    ghost WORDS: { ℕ };
+
+    ghost LENGTHS: { ℕ };
+
+    ghost LOGS: { ℕ };
+
+    ghost LOG: { ℕ };
+
+    ghost RECORDS: { ℕ };
+
+    ghost RECORD: { ℕ };
+
+    ghost UNSENT: { ℕ };
+
+    ghost IN_FLIGHT: { ℕ };
+
+    const CONTROLLERS: u16;
+
+    const MESSAGES: u16;
+
+    const WORDS: usize;
+
+    const LENGTHS: usize;
+
+    const LOGS: usize;
+
+    const LOG: usize;
+
+    const RECORDS: usize;
+
+    const RECORD: usize;
+
+    const UNSENT: usize;
+
+    const IN_FLIGHT: usize;
+
+    // Each number is the layout's.
+    ghost laid: { Laid (layout room) CONTROLLERS MESSAGES WORDS LENGTHS LOGS LOG RECORDS RECORD UNSENT IN_FLIGHT };
+}
+
+// The paper's bank: a run of words that the caller lends. Where both sizes are alike, the numbers are its own.
 #[derive(Clone, Copy)]
 pub struct Bank {}
 
 impl Bank {
-    pub const CONTROLLERS: u16 = 16;
-
-    pub const MESSAGES: u16 = 32;
-
-    pub const WORDS: usize = 2244;
-
     pub const N: usize = 0;
 
     pub const MODE: usize = 1;
@@ -24,16 +68,6 @@ impl Bank {
     pub const UP: usize = 3;
 
     pub const VIEWS: usize = 4;
-
-    pub const LENGTHS: usize = 20;
-
-    pub const LOGS: usize = 36;
-
-    pub const LOG: usize = 32;
-
-    pub const RECORDS: usize = 548;
-
-    pub const RECORD: usize = 53;
 
     pub const SENDER: usize = 0;
 
@@ -46,63 +80,124 @@ impl Bank {
     pub const DELIVERED: usize = 4;
 
     pub const ACKED: usize = 5;
-
-    pub const UNSENT: usize = 21;
-
-    pub const IN_FLIGHT: usize = 37;
 }
 
-// The seedling rack's bank: the numbers in which it differs from the full one.
+impl Room for Bank {
+    ghost room = { false };
+
+    ghost CONTROLLERS = { 16 };
+
+    ghost MESSAGES = { 32 };
+
+    ghost WORDS = { 2244 };
+
+    ghost LENGTHS = { 20 };
+
+    ghost LOGS = { 36 };
+
+    ghost LOG = { 32 };
+
+    ghost RECORDS = { 548 };
+
+    ghost RECORD = { 53 };
+
+    ghost UNSENT = { 21 };
+
+    ghost IN_FLIGHT = { 37 };
+
+    const CONTROLLERS: u16 = 16;
+
+    const MESSAGES: u16 = 32;
+
+    const WORDS: usize = 2244;
+
+    const LENGTHS: usize = 20;
+
+    const LOGS: usize = 36;
+
+    const LOG: usize = 32;
+
+    const RECORDS: usize = 548;
+
+    const RECORD: usize = 53;
+
+    const UNSENT: usize = 21;
+
+    const IN_FLIGHT: usize = 37;
+
+    ghost laid = { record {
+      controllers = refl;
+      messages = refl;
+      words = refl;
+      lengths = refl;
+      logs = refl;
+      log = refl;
+      records = refl;
+      record_words = refl;
+      unsent = refl;
+      in_flight = refl;
+    } };
+}
+
+// The seedling rack's smaller bank.
 #[derive(Clone, Copy)]
-pub(crate) struct Rack {}
+pub struct Rack {}
 
-impl Rack {
-    pub const CONTROLLERS: u16 = 4;
+impl Room for Rack {
+    ghost room = { true };
 
-    pub const MESSAGES: u16 = 8;
+    ghost CONTROLLERS = { 4 };
 
-    pub const WORDS: usize = 180;
+    ghost MESSAGES = { 8 };
 
-    pub const LENGTHS: usize = 8;
+    ghost WORDS = { 180 };
 
-    pub const LOGS: usize = 12;
+    ghost LENGTHS = { 8 };
 
-    pub const LOG: usize = 8;
+    ghost LOGS = { 12 };
 
-    pub const RECORDS: usize = 44;
+    ghost LOG = { 8 };
 
-    pub const RECORD: usize = 17;
+    ghost RECORDS = { 44 };
 
-    pub const UNSENT: usize = 9;
+    ghost RECORD = { 17 };
 
-    pub const IN_FLIGHT: usize = 13;
-}
+    ghost UNSENT = { 9 };
 
-// Which of the two sizes a bank has.
-pub type Room = bool;
+    ghost IN_FLIGHT = { 13 };
 
-pub const FULL: Room = false;
+    const CONTROLLERS: u16 = 4;
 
-pub(crate) fn controllers(room: Room) -> u16
-    ensures { result ≡ (layout room).controllers }
-{
-    if room {
-        Rack::CONTROLLERS
-    } else {
-        Bank::CONTROLLERS
-    }
-}
+    const MESSAGES: u16 = 8;
 
-pub fn messages(room: Room) -> u16
-    ensures { result ≡ (layout room).messages }
-{
-    if room { Rack::MESSAGES } else { Bank::MESSAGES }
-}
+    const WORDS: usize = 180;
 
-pub(crate) fn size(room: Room) -> usize
-    ensures { result ≡ Layout.size (layout room) }
-{
-    if room { Rack::WORDS } else { Bank::WORDS }
+    const LENGTHS: usize = 8;
+
+    const LOGS: usize = 12;
+
+    const LOG: usize = 8;
+
+    const RECORDS: usize = 44;
+
+    const RECORD: usize = 17;
+
+    const UNSENT: usize = 9;
+
+    const IN_FLIGHT: usize = 13;
+
+    ghost laid = { record {
+      controllers = refl;
+      messages = refl;
+      words = refl;
+      lengths = refl;
+      logs = refl;
+      log = refl;
+      records = refl;
+      record_words = refl;
+      unsent = refl;
+      in_flight = refl;
+    } };
 }
 
 // ---- in the bank
@@ -113,44 +208,28 @@ pub fn view_at(i: u16) -> usize
     Bank::VIEWS + i as usize
 }
 
-pub fn length_at(room: Room, i: u16) -> usize
-    ensures { result ≡ address (layout room) (log_length i) }
+pub fn length_at<R: Room>(i: u16) -> usize
+    ensures { result ≡ address (layout R.room) (log_length i) }
 {
-    if room {
-        Rack::LENGTHS + i as usize
-    } else {
-        Bank::LENGTHS + i as usize
-    }
+    R::LENGTHS + i as usize
 }
 
-pub fn log_at(room: Room, i: u16, k: u16) -> usize
-    ensures { result ≡ address (layout room) (log i k) }
+pub fn log_at<R: Room>(i: u16, k: u16) -> usize
+    ensures { result ≡ address (layout R.room) (log i k) }
 {
-    if room {
-        (Rack::LOGS + (i as usize) * Rack::LOG) + k as usize
-    } else {
-        (Bank::LOGS + (i as usize) * Bank::LOG) + k as usize
-    }
+    (R::LOGS + (i as usize) * R::LOG) + k as usize
 }
 
-pub fn record_at(room: Room, m: u16) -> usize
-    ensures { result ≡ record_at (layout room) m }
+pub fn record_at<R: Room>(m: u16) -> usize
+    ensures { result ≡ record_at (layout R.room) m }
 {
-    if room {
-        Rack::RECORDS + (m as usize) * Rack::RECORD
-    } else {
-        Bank::RECORDS + (m as usize) * Bank::RECORD
-    }
+    R::RECORDS + (m as usize) * R::RECORD
 }
 
-pub fn record_end(room: Room, m: u16) -> usize
-    ensures { result ≡ record_at (layout room) m + record_size (layout room) }
+pub fn record_end<R: Room>(m: u16) -> usize
+    ensures { result ≡ record_at (layout R.room) m + record_size (layout R.room) }
 {
-    if room {
-        (Rack::RECORDS + (m as usize) * Rack::RECORD) + Rack::RECORD
-    } else {
-        (Bank::RECORDS + (m as usize) * Bank::RECORD) + Bank::RECORD
-    }
+    record_at::<R>(m) + R::RECORD
 }
 
 // ---- in a record
@@ -161,22 +240,14 @@ pub fn acked_at(i: u16) -> usize
     Bank::ACKED + i as usize
 }
 
-pub fn unsent_at(room: Room, i: u16) -> usize
-    ensures { result ≡ offset (layout room) (unsent i) }
+pub fn unsent_at<R: Room>(i: u16) -> usize
+    ensures { result ≡ offset (layout R.room) (unsent i) }
 {
-    if room {
-        Rack::UNSENT + i as usize
-    } else {
-        Bank::UNSENT + i as usize
-    }
+    R::UNSENT + i as usize
 }
 
-pub fn flight_at(room: Room, i: u16) -> usize
-    ensures { result ≡ offset (layout room) (in_flight i) }
+pub fn flight_at<R: Room>(i: u16) -> usize
+    ensures { result ≡ offset (layout R.room) (in_flight i) }
 {
-    if room {
-        Rack::IN_FLIGHT + i as usize
-    } else {
-        Bank::IN_FLIGHT + i as usize
-    }
+    R::IN_FLIGHT + i as usize
 }

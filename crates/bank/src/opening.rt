@@ -1,67 +1,55 @@
 // Opening a group: every word of the bank is written anew.
 ghost use Rattle.std.specs.Prelude.{◌≡◌, ◌≤◌, length, replicate};
 ghost use Rattle.bank.specs.Layout;
-ghost use Rattle.bank.specs.Layout.{paper, layout, address, puts};
+ghost use Rattle.numbers.specs.Numbers.{given};
+ghost use Rattle.bank.specs.Layout.{layout, address, puts};
 ghost use Rattle.bank.specs.Opening.{opened, views, OpenPromise};
 
-use crate::layout::{Bank, FULL, Room, size, view_at};
-use crate::unfit::{is_mode, is_size};
-use numbers::Refusal;
+use crate::layout::{Bank, Room, view_at};
+use crate::unfit::is_size;
+use numbers::{Mode, Refusal};
 
 // Writes 0 everywhere.
 pub fn clear(words: &mut [u16])
     ensures { words.new ≡ replicate (length words.old) 0 }
 {
-    let mut k = 0;
-    while k < words.len() {
-        words[k] = 0;
-        k += 1;
-    }
+    words.fill(0);
 }
 
 // Each of the first n controllers takes all n to be up.
-fn open_views(bank: &mut [u16], room: Room, n: u16)
-    requires { (length bank.old ≡ Layout.size (layout room)) × (n ≤ (layout room).controllers) }
-    ensures { bank.new ≡ puts (address (layout room)) bank.old (views n 0 n) }
+fn open_views<R: Room>(bank: &mut [u16], n: u16)
+    requires { (length bank.old ≡ Layout.size (layout R.room)) × (n ≤ (layout R.room).controllers) }
+    ensures { bank.new ≡ puts (address (layout R.room)) bank.old (views n 0 n) }
 {
     let all = sets::all_below(n);
-    let mut i = 0;
-    while i < n {
+    for i in 0..n {
         bank[view_at(i)] = all;
-        i += 1;
     }
 }
 
-fn write_opening(bank: &mut [u16], room: Room, n: u16, mode: u16)
-    requires { (length bank.old ≡ Layout.size (layout room)) × (n ≤ (layout room).controllers) }
-    ensures { bank.new ≡ opened (layout room) n mode }
+fn write_opening<R: Room>(bank: &mut [u16], n: u16, mode: u16)
+    requires { (length bank.old ≡ Layout.size (layout R.room)) × (n ≤ (layout R.room).controllers) }
+    ensures { bank.new ≡ opened (layout R.room) n mode }
 {
     clear(bank);
     bank[Bank::N] = n;
     bank[Bank::MODE] = mode;
     bank[Bank::UP] = sets::all_below(n);
-    open_views(bank, room, n);
+    open_views::<R>(bank, n);
 }
 
 // Opens a group of n controllers in a bank of that size.
-fn open_in(bank: &mut [u16], room: Room, n: u16, mode: u16) -> u16
-    ensures { OpenPromise (layout room) bank.old n mode result bank.new }
+#[tactic(auto, unfolding(crate::specs::Opening::open_of))]
+pub fn open<R: Room>(bank: &mut [u16], n: u16, mode: u16) -> Result<(), Refusal>
+    ensures { OpenPromise (layout R.room) bank.old n mode (given result) bank.new }
 {
-    if bank.len() != size(room) {
-        return Refusal::UNFIT;
+    if bank.len() != R::WORDS {
+        return Err(Refusal::Unfit);
     }
-    if !is_size(n, room) {
-        return Refusal::BAD_SIZE;
+    if !is_size::<R>(n) {
+        return Err(Refusal::BadSize);
     }
-    if !is_mode(mode) {
-        return Refusal::BAD_MODE;
-    }
-    write_opening(bank, room, n, mode);
-    Refusal::DONE
-}
-
-pub fn open(bank: &mut [u16], n: u16, mode: u16) -> u16
-    ensures { OpenPromise paper bank.old n mode result bank.new }
-{
-    open_in(bank, FULL, n, mode)
+    Mode::try_from(mode)?;
+    write_opening::<R>(bank, n, mode);
+    Ok(())
 }

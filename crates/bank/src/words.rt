@@ -21,66 +21,66 @@ pub fn view(bank: &[u16], i: u16) -> u16
 }
 
 // How long controller i's log is.
-pub fn logged(bank: &[u16], room: Room, i: u16) -> u16
-    ensures { result ≡ Layout.words (layout room) bank.now (Place.log_length i) }
+pub fn logged<R: Room>(bank: &[u16], i: u16) -> u16
+    ensures { result ≡ Layout.words (layout R.room) bank.now (Place.log_length i) }
 {
-    word(bank, length_at(room, i))
+    word(bank, length_at::<R>(i))
 }
 
 // The word that stands at a place of message m's record.
-fn of_record(bank: &[u16], room: Room, m: u16, at: usize) -> u16
+fn of_record<R: Room>(bank: &[u16], m: u16, at: usize) -> u16
     requires { at ≤ 131072 }
-    ensures { result ≡ get_or bank.now (record_at (layout room) m + at) 0 }
+    ensures { result ≡ get_or bank.now (record_at (layout R.room) m + at) 0 }
 {
-    word(bank, record_at(room, m) + at)
+    word(bank, record_at::<R>(m) + at)
 }
 
-pub fn sender(bank: &[u16], room: Room, m: u16) -> u16
-    ensures { result ≡ Layout.words (layout room) bank.now (message m Place.sender) }
+pub fn sender<R: Room>(bank: &[u16], m: u16) -> u16
+    ensures { result ≡ Layout.words (layout R.room) bank.now (message m Place.sender) }
 {
-    of_record(bank, room, m, Bank::SENDER)
+    of_record::<R>(bank, m, Bank::SENDER)
 }
 
-pub fn stamp(bank: &[u16], room: Room, m: u16) -> u16
-    ensures { result ≡ Layout.words (layout room) bank.now (message m Place.stamp) }
+pub fn stamp<R: Room>(bank: &[u16], m: u16) -> u16
+    ensures { result ≡ Layout.words (layout R.room) bank.now (message m Place.stamp) }
 {
-    of_record(bank, room, m, Bank::STAMP)
+    of_record::<R>(bank, m, Bank::STAMP)
 }
 
-pub fn value(bank: &[u16], room: Room, m: u16) -> u16
-    ensures { result ≡ Layout.words (layout room) bank.now (message m Place.value) }
+pub fn value<R: Room>(bank: &[u16], m: u16) -> u16
+    ensures { result ≡ Layout.words (layout R.room) bank.now (message m Place.value) }
 {
-    of_record(bank, room, m, Bank::VALUE)
+    of_record::<R>(bank, m, Bank::VALUE)
 }
 
 // Who holds message m, and who has delivered it.
-pub fn held(bank: &[u16], room: Room, m: u16) -> u16
-    ensures { result ≡ Layout.words (layout room) bank.now (message m Place.held) }
+pub fn held<R: Room>(bank: &[u16], m: u16) -> u16
+    ensures { result ≡ Layout.words (layout R.room) bank.now (message m Place.held) }
 {
-    of_record(bank, room, m, Bank::HELD)
+    of_record::<R>(bank, m, Bank::HELD)
 }
 
-pub fn delivered(bank: &[u16], room: Room, m: u16) -> u16
-    ensures { result ≡ Layout.words (layout room) bank.now (message m Place.delivered) }
+pub fn delivered<R: Room>(bank: &[u16], m: u16) -> u16
+    ensures { result ≡ Layout.words (layout R.room) bank.now (message m Place.delivered) }
 {
-    of_record(bank, room, m, Bank::DELIVERED)
+    of_record::<R>(bank, m, Bank::DELIVERED)
 }
 
 // From whom controller i has received message m, to whom it must still send it, and from whom a copy is on its way.
-pub fn acked(bank: &[u16], room: Room, m: u16, i: u16) -> u16
-    ensures { result ≡ Layout.words (layout room) bank.now (message m (Place.acked i)) }
+pub fn acked<R: Room>(bank: &[u16], m: u16, i: u16) -> u16
+    ensures { result ≡ Layout.words (layout R.room) bank.now (message m (Place.acked i)) }
 {
-    of_record(bank, room, m, acked_at(i))
+    of_record::<R>(bank, m, acked_at(i))
 }
 
-pub fn unsent(bank: &[u16], room: Room, m: u16, i: u16) -> u16
-    ensures { result ≡ Layout.words (layout room) bank.now (message m (Place.unsent i)) }
+pub fn unsent<R: Room>(bank: &[u16], m: u16, i: u16) -> u16
+    ensures { result ≡ Layout.words (layout R.room) bank.now (message m (Place.unsent i)) }
 {
-    of_record(bank, room, m, unsent_at(room, i))
+    of_record::<R>(bank, m, unsent_at::<R>(i))
 }
 
-pub fn in_flight(bank: &[u16], room: Room, m: u16, i: u16) -> u16
-    ensures { result ≡ Layout.words (layout room) bank.now (message m (Place.in_flight i)) }
+pub fn in_flight<R: Room>(bank: &[u16], m: u16, i: u16) -> u16
+    ensures { result ≡ Layout.words (layout R.room) bank.now (message m (Place.in_flight i)) }
 {
-    of_record(bank, room, m, flight_at(room, i))
+    of_record::<R>(bank, m, flight_at::<R>(i))
 }

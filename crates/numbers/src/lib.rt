@@ -1,74 +1,102 @@
-// The paper's numbers by name: the kinds of step, the modes, and what is given back. No function, no bank.
+// The paper's numbers by name: the kinds of step, the modes, and why a call is refused. No bank. What each number is
+// stands in specs/Numbers.antt; the C header has the same names.
 #![tactic(auto)]
 
+ghost use Rattle.std.specs.Prelude.{◌≡◌};
+ghost use Rattle.numbers.specs.Numbers;
+
 // The seven kinds of step.
-#[derive(Clone, Copy)]
-pub struct Kind {}
-
-impl Kind {
-    pub const BROADCAST: u16 = 1;
-
-    pub const SEND: u16 = 2;
-
-    pub const RECEIVE: u16 = 3;
-
-    pub const DELIVER: u16 = 4;
-
-    pub const CRASH: u16 = 5;
-
-    pub const DETECT: u16 = 6;
-
-    pub const LOSE: u16 = 7;
+#[derive(Clone, Copy, Debug, PartialEq, Eq)]
+pub enum Kind {
+    Broadcast = 1,
+    Send = 2,
+    Receive = 3,
+    Deliver = 4,
+    Crash = 5,
+    Detect = 6,
+    Lose = 7,
 }
 
-#[derive(Clone, Copy)]
-pub struct Mode {}
+impl TryFrom<u16> for Kind {
+    type Error = Refusal;
 
-impl Mode {
-    pub const ALL_ACK: u16 = 1;
+    ghost try_from_gives = { λ kind r. r ≡ Numbers.kind_of kind };
 
-    pub const MAJORITY: u16 = 2;
+    fn try_from(kind: u16) -> Result<Kind, Refusal> {
+        match kind {
+            1 => Ok(Kind::Broadcast),
+            2 => Ok(Kind::Send),
+            3 => Ok(Kind::Receive),
+            4 => Ok(Kind::Deliver),
+            5 => Ok(Kind::Crash),
+            6 => Ok(Kind::Detect),
+            7 => Ok(Kind::Lose),
+            _ => Err(Refusal::NoStep),
+        }
+    }
 }
 
-// What is given back: done, or why not. The C header has the same names.
-#[derive(Clone, Copy)]
-pub struct Refusal {}
+// The two modes.
+#[derive(Clone, Copy, Debug, PartialEq, Eq)]
+pub enum Mode {
+    AllAck = 1,
+    Majority = 2,
+}
 
-impl Refusal {
-    pub const DONE: u16 = 0;
+impl TryFrom<u16> for Mode {
+    type Error = Refusal;
 
+    ghost try_from_gives = { λ mode r. r ≡ Numbers.mode_of mode };
+
+    fn try_from(mode: u16) -> Result<Mode, Refusal> {
+        match mode {
+            1 => Ok(Mode::AllAck),
+            2 => Ok(Mode::Majority),
+            _ => Err(Refusal::BadMode),
+        }
+    }
+}
+
+// Why a call is refused.
+#[derive(Clone, Copy, Debug, PartialEq, Eq)]
+pub enum Refusal {
     // The bank is unfit; also a log that has no room for a delivery, or that names no message.
-    pub const UNFIT: u16 = 1;
-
+    Unfit = 1,
     // No kind, or a number that the kind does not use is not 0.
-    pub const NO_STEP: u16 = 2;
-
-    pub const NO_CONTROLLER: u16 = 3;
-
-    pub const NO_MESSAGE: u16 = 4;
-
+    NoStep = 2,
+    NoController = 3,
+    NoMessage = 4,
     // This mode detects nothing.
-    pub const NO_DETECTION: u16 = 5;
-
-    pub const ACTOR_DOWN: u16 = 6;
-
+    NoDetection = 5,
+    ActorDown = 6,
     // All message numbers are given.
-    pub const MESSAGES_FULL: u16 = 7;
-
+    MessagesFull = 7,
     // Nothing to send, to receive, to lose or to deliver there.
-    pub const NO_COPY: u16 = 8;
-
+    NoCopy = 8,
     // The delivery test fails, or whoever would have to be down is up.
-    pub const NOT_YET: u16 = 9;
-
-    pub const ALREADY: u16 = 10;
-
-    pub const BAD_SIZE: u16 = 11;
-
-    pub const BAD_MODE: u16 = 12;
-
+    NotYet = 9,
+    Already = 10,
+    BadSize = 11,
+    BadMode = 12,
     // A list that is no whole steps, a record that is cut or of a wrong length, a file not begun by a whole open.
-    pub const BAD_RECORD: u16 = 13;
+    BadRecord = 13,
+    BadDay = 14,
+}
 
-    pub const BAD_DAY: u16 = 14;
+impl From<Refusal> for u16 {
+    ghost from_gives = { λ r n. n ≡ Numbers.number r };
+
+    fn from(refusal: Refusal) -> u16 {
+        refusal as u16
+    }
+}
+
+// The number that a call gives back: 0 where nothing refuses it.
+pub fn number(answer: Result<(), Refusal>) -> u16
+    ensures { result ≡ Numbers.given answer }
+{
+    match answer {
+        Ok(()) => 0,
+        Err(refusal) => u16::from(refusal),
+    }
 }

@@ -1,0 +1,2 @@
+-- The definitions of numbers.
+pub mod Numbers
