@@ -1,5 +1,5 @@
 -- Which number stands for what: the refusals, the kinds of step, the modes.
-use Rattle.std.specs.Prelude.{ℕ, ◌≡◌, Result, Ok, Err, cond, eqb}
+use Rattle.std.specs.Prelude.{ℕ, Bool, Result, Ok, Err, cond, eqb}
 use Rattle.numbers.specs.declared.Kind.{Kind}
 use Rattle.numbers.specs.declared.Kind.TheVariants.{Broadcast, Send, Receive, Deliver, Crash, Detect, Lose}
 use Rattle.numbers.specs.declared.Mode.{Mode}
@@ -30,6 +30,10 @@ number BadDay = 14
 abbrev pub given : {A : Type 0} → Result A Refusal → ℕ
 given (Ok a) = 0
 given (Err r) = number r
+
+-- refused unless a test holds
+abbrev pub unless : Refusal → Bool → Result (Unit {0}) Refusal
+unless r holds = cond holds (Ok tt) (Err r)
 
 -- the kind of step that a number stands for
 abbrev pub kind_of : ℕ → Result Kind Refusal

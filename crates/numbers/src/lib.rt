@@ -5,6 +5,16 @@
 ghost use Rattle.std.specs.Prelude.{◌≡◌};
 ghost use Rattle.numbers.specs.Numbers;
 
+// The four numbers that ask for a step: its kind, and what the kind uses.
+#[repr(C)]
+#[derive(Clone, Copy, Debug, PartialEq, Eq)]
+pub struct Asked {
+    pub kind: u16,
+    pub a: u16,
+    pub b: u16,
+    pub c: u16,
+}
+
 // The seven kinds of step.
 #[derive(Clone, Copy, Debug, PartialEq, Eq)]
 pub enum Kind {
@@ -81,6 +91,15 @@ pub enum Refusal {
     // A list that is no whole steps, a record that is cut or of a wrong length, a file not begun by a whole open.
     BadRecord = 13,
     BadDay = 14,
+}
+
+impl Refusal {
+    // Refuses unless the test holds.
+    pub fn unless(self, holds: bool) -> Result<(), Refusal>
+        ensures { result ≡ Numbers.unless self holds }
+    {
+        if holds { Ok(()) } else { Err(self) }
+    }
 }
 
 impl From<Refusal> for u16 {

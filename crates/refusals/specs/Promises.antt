@@ -15,6 +15,10 @@ asked_refusal L b (some s) = refusal L (words L b) s
 unfoldable pub refusal_of : Layout → List ℕ → Asked → ℕ
 refusal_of L b x = cond (fit L b) (asked_refusal L b (asked x)) 1
 
+-- what refuses a step, whoever asks for it
+unfoldable pub step_refusal : Layout → List ℕ → Step → ℕ
+step_refusal L b s = cond (fit L b) (refusal L (words L b) s) 1
+
 -- a step that nothing refuses, as the facts that its writes rest on
 pub record Allowed (L : Layout) (b : List ℕ) (s : Step) : Type 0 where
   pub sound : Fit L b

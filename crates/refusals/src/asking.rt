@@ -1,24 +1,40 @@
-// What refuses the step that four numbers ask for: an unfit bank before all else.
-ghost use Rattle.bank.specs.Layout.{paper, layout};
-ghost use Rattle.refusals.specs.Step.{ask};
-ghost use Rattle.refusals.specs.Promises.{RefusalPromise};
+// What refuses a step, and the step that four numbers ask for: an unfit bank before all else.
+ghost use Rattle.std.specs.Prelude.{◌≡◌};
+ghost use Rattle.numbers.specs.Numbers.{given};
+ghost use Rattle.bank.specs.Layout.{layout};
+ghost use Rattle.refusals.specs.Asking.{step_of, Asks};
+ghost use Rattle.refusals.specs.Promises.{RefusalPromise, step_refusal};
 
-use crate::kinds::of_asked;
-use bank::{FULL, Room};
-use numbers::Refusal;
+use crate::kinds::of_fit;
+use crate::step::Step;
+use bank::Room;
+use numbers::{Asked, Refusal};
 
-// The number that refuses the step, or 0.
-pub fn refusal_in(bank: &[u16], room: Room, kind: u16, a: u16, b: u16, c: u16) -> u16
-    ensures { RefusalPromise (layout room) bank.now (ask kind a b c) result }
+// Whether the step is allowed, or what refuses it.
+#[tactic(auto, unfolding(crate::specs::Promises::step_refusal))]
+pub fn of_step<R: Room>(bank: &[u16], step: Step) -> Result<(), Refusal>
+    ensures { given result ≡ step_refusal (layout R.room) bank.now (step_of step) }
 {
-    if !bank::fit_in(bank, room) {
-        return Refusal::UNFIT;
-    }
-    of_asked(bank, room, kind, a, b, c)
+    Refusal::Unfit.unless(bank::fit::<R>(bank))?;
+    of_fit::<R>(bank, step)
 }
 
-pub fn refusal(bank: &[u16], kind: u16, a: u16, b: u16, c: u16) -> u16
-    ensures { RefusalPromise paper bank.now (ask kind a b c) result }
+// The step that is asked for where it is allowed, or what refuses it.
+#[tactic(auto, unfolding(crate::specs::Promises::refusal_of))]
+pub fn allowed<R: Room>(bank: &[u16], asked: Asked) -> Result<Step, Refusal>
+    ensures refused { RefusalPromise (layout R.room) bank.now asked (given result) }
+    ensures step { Asks asked result }
 {
-    refusal_in(bank, FULL, kind, a, b, c)
+    Refusal::Unfit.unless(bank::fit::<R>(bank))?;
+    let step = Step::try_from(asked)?;
+    of_fit::<R>(bank, step)?;
+    Ok(step)
+}
+
+// Whether the step that is asked for is allowed, or what refuses it.
+pub fn refusal<R: Room>(bank: &[u16], asked: Asked) -> Result<(), Refusal>
+    ensures { RefusalPromise (layout R.room) bank.now asked (given result) }
+{
+    allowed::<R>(bank, asked)?;
+    Ok(())
 }

@@ -1,6 +1,7 @@
 // Delivery: the test of each mode, and what refuses a delivery. Step and settler both ask here. Reads the bank, writes
 // nothing.
 ghost use Rattle.std.specs.Prelude.{◌≡◌, [], ◌∷◌, not, ltb};
+ghost use Rattle.numbers.specs.Numbers.{given};
 ghost use Rattle.sets.specs.Set.{has};
 ghost use Rattle.bank.specs.Layout.{layout, words};
 ghost use Rattle.bank.specs.Rules.{◌else◌, first_broken};
@@ -12,59 +13,41 @@ use bank::{Bank, Room};
 use numbers::{Mode, Refusal};
 
 // The delivery test of a mode, among n controllers: whom one of them takes to be up, and from whom it has the message.
+#[tactic(auto, unfolding(crate::specs::Delivery::enough))]
 fn enough(mode: u16, n: u16, trusted: u16, received: u16) -> bool
     ensures { result ≡ Delivery.enough mode n trusted received }
 {
-    if mode == Mode::ALL_ACK {
-        return sets::within(trusted, received, n);
+    match Mode::try_from(mode) {
+        Ok(Mode::AllAck) => sets::within(trusted, received, n),
+        _ => u32::from(n) < 2 * sets::count_below(received, n),
     }
-    (n as u32) < 2 * sets::count_below(received, n)
 }
 
 // Whether controller i has heard enough of message m.
-fn may_deliver(bank: &[u16], room: Room, i: u16, m: u16) -> bool
-    ensures { result ≡ may_deliver (words (layout room) bank.now) i m }
+fn may_deliver<R: Room>(bank: &[u16], i: u16, m: u16) -> bool
+    ensures { result ≡ may_deliver (words (layout R.room) bank.now) i m }
 {
     let mode = bank::word(bank, Bank::MODE);
     let n = bank::word(bank, Bank::N);
-    enough(mode, n, bank::view(bank, i), bank::acked(bank, room, m, i))
+    enough(mode, n, bank::view(bank, i), bank::acked::<R>(bank, m, i))
 }
 
 // The last tests of a delivery: not done yet, and room in the log.
-fn undelivered(delivered: u16, i: u16, length: u16, count: u16) -> u16
-    ensures { result ≡ first_broken (not (has delivered i) else 10 ∷ ltb length count else 1 ∷ []) }
+fn undelivered(delivered: u16, i: u16, length: u16, count: u16) -> Result<(), Refusal>
+    ensures { given result ≡ first_broken (not (has delivered i) else 10 ∷ ltb length count else 1 ∷ []) }
 {
-    if sets::has(delivered, i) {
-        return Refusal::ALREADY;
-    }
-    if length >= count {
-        return Refusal::UNFIT;
-    }
-    Refusal::DONE
+    Refusal::Already.unless(!sets::has(delivered, i))?;
+    Refusal::Unfit.unless(length < count)
 }
 
-// What refuses a delivery in a fit bank, or 0.
-pub fn delivery_refusal(bank: &[u16], room: Room, i: u16, m: u16) -> u16
-    ensures { result ≡ first_broken (deliver_rules (words (layout room) bank.now) i m) }
+// What refuses a delivery in a fit bank.
+pub fn delivery_refusal<R: Room>(bank: &[u16], i: u16, m: u16) -> Result<(), Refusal>
+    ensures { given result ≡ first_broken (deliver_rules (words (layout R.room) bank.now) i m) }
 {
     let count = bank::word(bank, Bank::COUNT);
-    if i >= bank::word(bank, Bank::N) {
-        return Refusal::NO_CONTROLLER;
-    }
-    if m >= count {
-        return Refusal::NO_MESSAGE;
-    }
-    let r = moves(bank::word(bank, Bank::UP), i, bank::held(bank, room, m), i);
-    if r != Refusal::DONE {
-        return r;
-    }
-    if !may_deliver(bank, room, i, m) {
-        return Refusal::NOT_YET;
-    }
-    undelivered(
-        bank::delivered(bank, room, m),
-        i,
-        bank::logged(bank, room, i),
-        count,
-    )
+    Refusal::NoController.unless(i < bank::word(bank, Bank::N))?;
+    Refusal::NoMessage.unless(m < count)?;
+    moves(bank::word(bank, Bank::UP), i, bank::held::<R>(bank, m), i)?;
+    Refusal::NotYet.unless(may_deliver::<R>(bank, i, m))?;
+    undelivered(bank::delivered::<R>(bank, m), i, bank::logged::<R>(bank, i), count)
 }

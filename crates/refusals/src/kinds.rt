@@ -1,133 +1,81 @@
-// What refuses each step of a fit bank: the lowest number that applies, or 0. Reads the bank, writes nothing.
+// What refuses each step of a fit bank: the lowest number that applies. Reads the bank, writes nothing.
 ghost use Rattle.std.specs.Prelude.{◌≡◌};
+ghost use Rattle.numbers.specs.Numbers.{given};
 ghost use Rattle.bank.specs.Layout.{paper, layout, words};
-ghost use Rattle.refusals.specs.Step.{ask, asked, broadcast, send, receive, crash, detect, lose};
+ghost use Rattle.refusals.specs.Step.{broadcast, send, receive, crash, detect, lose};
+ghost use Rattle.refusals.specs.Asking.{step_of};
 ghost use Rattle.refusals.specs.Refusals;
-ghost use Rattle.refusals.specs.Promises.{asked_refusal};
 
 use crate::beginnings::{actor, ends, moves};
 use crate::delivery::delivery_refusal;
+use crate::step::Step;
 use bank::{Bank, Room};
-use numbers::{Kind, Mode, Refusal};
+use numbers::{Mode, Refusal};
 
-fn of_broadcast(bank: &[u16], room: Room, who: u16, stamp: u16, value: u16) -> u16
-    ensures { result
-        ≡ Refusals.refusal (layout room) (words (layout room) bank.now) (broadcast who stamp value) }
+fn of_broadcast<R: Room>(bank: &[u16], who: u16, stamp: u16, value: u16) -> Result<(), Refusal>
+    ensures { given result
+        ≡ Refusals.refusal (layout R.room) (words (layout R.room) bank.now) (broadcast who stamp value) }
 {
-    let r = actor(bank, who);
-    if r != Refusal::DONE {
-        return r;
-    }
-    if bank::word(bank, Bank::COUNT) >= bank::messages(room) {
-        return Refusal::MESSAGES_FULL;
-    }
-    Refusal::DONE
+    actor(bank, who)?;
+    Refusal::MessagesFull.unless(bank::word(bank, Bank::COUNT) < R::MESSAGES)
 }
 
-fn of_send(bank: &[u16], room: Room, from: u16, to: u16, m: u16) -> u16
-    ensures { result ≡ Refusals.refusal (layout room) (words (layout room) bank.now) (send from to m) }
+fn of_send<R: Room>(bank: &[u16], from: u16, to: u16, m: u16) -> Result<(), Refusal>
+    ensures { given result ≡ Refusals.refusal (layout R.room) (words (layout R.room) bank.now) (send from to m) }
 {
-    let r = ends(bank, from, to, m);
-    if r != Refusal::DONE {
-        return r;
-    }
+    ends(bank, from, to, m)?;
     let up = bank::word(bank, Bank::UP);
-    moves(up, from, bank::unsent(bank, room, m, from), to)
+    moves(up, from, bank::unsent::<R>(bank, m, from), to)
 }
 
-fn of_receive(bank: &[u16], room: Room, i: u16, from: u16, m: u16) -> u16
-    ensures { result ≡ Refusals.refusal (layout room) (words (layout room) bank.now) (receive i from m) }
+fn of_receive<R: Room>(bank: &[u16], i: u16, from: u16, m: u16) -> Result<(), Refusal>
+    ensures { given result ≡ Refusals.refusal (layout R.room) (words (layout R.room) bank.now) (receive i from m) }
 {
-    let r = ends(bank, i, from, m);
-    if r != Refusal::DONE {
-        return r;
-    }
+    ends(bank, i, from, m)?;
     let up = bank::word(bank, Bank::UP);
-    moves(up, i, bank::in_flight(bank, room, m, i), from)
+    moves(up, i, bank::in_flight::<R>(bank, m, i), from)
 }
 
-fn of_crash(bank: &[u16], who: u16) -> u16
-    ensures { result ≡ Refusals.refusal paper (words paper bank.now) (crash who) }
+fn of_crash(bank: &[u16], who: u16) -> Result<(), Refusal>
+    ensures { given result ≡ Refusals.refusal paper (words paper bank.now) (crash who) }
 {
     actor(bank, who)
 }
 
-fn of_detect(bank: &[u16], i: u16, j: u16) -> u16
-    ensures { result ≡ Refusals.refusal paper (words paper bank.now) (detect i j) }
+fn of_detect(bank: &[u16], i: u16, j: u16) -> Result<(), Refusal>
+    ensures { given result ≡ Refusals.refusal paper (words paper bank.now) (detect i j) }
 {
     let n = bank::word(bank, Bank::N);
     let up = bank::word(bank, Bank::UP);
-    if i >= n {
-        return Refusal::NO_CONTROLLER;
-    }
-    if j >= n {
-        return Refusal::NO_CONTROLLER;
-    }
-    if bank::word(bank, Bank::MODE) != Mode::ALL_ACK {
-        return Refusal::NO_DETECTION;
-    }
-    if !sets::has(up, i) {
-        return Refusal::ACTOR_DOWN;
-    }
-    if sets::has(up, j) {
-        return Refusal::NOT_YET;
-    }
-    if !sets::has(bank::view(bank, i), j) {
-        return Refusal::ALREADY;
-    }
-    Refusal::DONE
+    let mode = bank::word(bank, Bank::MODE);
+    Refusal::NoController.unless(i < n)?;
+    Refusal::NoController.unless(j < n)?;
+    Refusal::NoDetection.unless(mode == Mode::AllAck as u16)?;
+    Refusal::ActorDown.unless(sets::has(up, i))?;
+    Refusal::NotYet.unless(!sets::has(up, j))?;
+    Refusal::Already.unless(sets::has(bank::view(bank, i), j))
 }
 
-fn of_lose(bank: &[u16], room: Room, from: u16, to: u16, m: u16) -> u16
-    ensures { result ≡ Refusals.refusal (layout room) (words (layout room) bank.now) (lose from to m) }
+fn of_lose<R: Room>(bank: &[u16], from: u16, to: u16, m: u16) -> Result<(), Refusal>
+    ensures { given result ≡ Refusals.refusal (layout R.room) (words (layout R.room) bank.now) (lose from to m) }
 {
-    let r = ends(bank, from, to, m);
-    if r != Refusal::DONE {
-        return r;
-    }
-    if !sets::has(bank::in_flight(bank, room, m, to), from) {
-        return Refusal::NO_COPY;
-    }
+    ends(bank, from, to, m)?;
     let up = bank::word(bank, Bank::UP);
-    if !sets::has(up, from) {
-        return Refusal::DONE;
-    }
-    if sets::has(up, to) {
-        return Refusal::NOT_YET;
-    }
-    Refusal::DONE
+    Refusal::NoCopy.unless(sets::has(bank::in_flight::<R>(bank, m, to), from))?;
+    Refusal::NotYet.unless(!(sets::has(up, from) && sets::has(up, to)))
 }
 
-// What refuses the step that four numbers ask for; 2 where they ask for none.
-pub(crate) fn of_asked(bank: &[u16], room: Room, kind: u16, a: u16, b: u16, c: u16) -> u16
-    ensures { result ≡ asked_refusal (layout room) bank.now (asked (ask kind a b c)) }
+// What refuses a step of a fit bank.
+pub(crate) fn of_fit<R: Room>(bank: &[u16], step: Step) -> Result<(), Refusal>
+    ensures { given result ≡ Refusals.refusal (layout R.room) (words (layout R.room) bank.now) (step_of step) }
 {
-    match kind {
-        Kind::BROADCAST => of_broadcast(bank, room, a, b, c),
-        Kind::SEND => of_send(bank, room, a, b, c),
-        Kind::RECEIVE => of_receive(bank, room, a, b, c),
-        Kind::DELIVER => {
-            if c != 0 {
-                return Refusal::NO_STEP;
-            }
-            delivery_refusal(bank, room, a, b)
-        }
-        Kind::CRASH => {
-            if b != 0 {
-                return Refusal::NO_STEP;
-            }
-            if c != 0 {
-                return Refusal::NO_STEP;
-            }
-            of_crash(bank, a)
-        }
-        Kind::DETECT => {
-            if c != 0 {
-                return Refusal::NO_STEP;
-            }
-            of_detect(bank, a, b)
-        }
-        Kind::LOSE => of_lose(bank, room, a, b, c),
-        _ => Refusal::NO_STEP,
+    match step {
+        Step::Broadcast { who, stamp, value } => of_broadcast::<R>(bank, who, stamp, value),
+        Step::Send { from, to, message } => of_send::<R>(bank, from, to, message),
+        Step::Receive { at, from, message } => of_receive::<R>(bank, at, from, message),
+        Step::Deliver { at, message } => delivery_refusal::<R>(bank, at, message),
+        Step::Crash { who } => of_crash(bank, who),
+        Step::Detect { at, of } => of_detect(bank, at, of),
+        Step::Lose { from, to, message } => of_lose::<R>(bank, from, to, message),
     }
 }
