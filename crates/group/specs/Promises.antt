@@ -4,7 +4,7 @@ use Rattle.std.proofs.Math.Option.{Option, none, some}
 use Rattle.bank.specs.Layout.{Layout, address, words, puts}
 use Rattle.bank.specs.Opening.{Answer, answer}
 use Rattle.refusals.specs.Step.{Step, Asked, asked}
-use Rattle.refusals.specs.Promises.{refusal_of}
+use Rattle.refusals.specs.Promises.{refusal_of, step_refusal}
 use Rattle.group.specs.Writes.{writes}
 
 -- the bank with a step's writes
@@ -25,3 +25,10 @@ step_of L b x =
 -- the promise, of the bank before, the numbers, the answer and the bank afterwards
 abbrev pub StepPromise : Layout → List ℕ → Asked → ℕ → List ℕ → Type 0
 StepPromise L b x r b' = answer r b' ≡ step_of L b x
+
+-- a step that is taken, whoever asks for it
+unfoldable pub taken : Layout → List ℕ → Step → Answer
+taken L b s = answer (step_refusal L b s) (cond (eqb (step_refusal L b s) 0) (after L b s) b)
+
+abbrev pub TakePromise : Layout → List ℕ → Step → ℕ → List ℕ → Type 0
+TakePromise L b s r b' = answer r b' ≡ taken L b s

@@ -1,5 +1,5 @@
 // The group's seven steps: what each writes, and one step, over a bank that the caller lends. Nothing is kept between
-// calls. Everything is for both sizes of bank; the calls without `room` are the full bank's. What is right stands in
+// calls. Everything is for both sizes of bank. What is right stands in
 // specs/, what each call promises in specs/Promises.antt.
 #![tactic(auto)]
 
@@ -7,4 +7,4 @@ mod one_step;
 mod record;
 mod steps;
 
-pub use one_step::{step, step_in};
+pub use one_step::{step, take};

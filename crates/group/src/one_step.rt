@@ -1,27 +1,31 @@
 // One step: its writes where nothing refuses it.
-ghost use Rattle.bank.specs.Layout.{paper, layout};
-ghost use Rattle.refusals.specs.Step.{ask};
-ghost use Rattle.group.specs.Promises.{StepPromise};
+ghost use Rattle.std.specs.Prelude.{◌≡◌};
+ghost use Rattle.numbers.specs.Numbers.{given};
+ghost use Rattle.bank.specs.Layout.{layout};
+ghost use Rattle.refusals.specs.Asking.{step_of};
+ghost use Rattle.group.specs.Promises.{StepPromise, TakePromise};
 
 use crate::steps;
-use bank::{FULL, Room};
-use numbers::Refusal;
-use refusals::refusal_in;
+use bank::Room;
+use numbers::{Asked, Refusal};
+use refusals::Step;
 
-// What refuses it, or 0; the bank is changed only where nothing does.
-pub fn step_in(bank: &mut [u16], room: Room, kind: u16, a: u16, b: u16, c: u16) -> u16
-    ensures { StepPromise (layout room) bank.old (ask kind a b c) result bank.new }
+// The step that four numbers ask for. What refuses it is given back; the bank is changed only where nothing does.
+#[tactic(auto, unfolding(crate::specs::Promises::step_of))]
+pub fn step<R: Room>(bank: &mut [u16], asked: Asked) -> Result<(), Refusal>
+    ensures { StepPromise (layout R.room) bank.old asked (given result) bank.new }
 {
-    let r = refusal_in(bank, room, kind, a, b, c);
-    if r != Refusal::DONE {
-        return r;
-    }
-    steps::apply(bank, room, kind, a, b, c);
-    Refusal::DONE
+    let step = refusals::allowed::<R>(bank, asked)?;
+    steps::apply::<R>(bank, step);
+    Ok(())
 }
 
-pub fn step(bank: &mut [u16], kind: u16, a: u16, b: u16, c: u16) -> u16
-    ensures { StepPromise paper bank.old (ask kind a b c) result bank.new }
+// A step that is known by its kind.
+#[tactic(auto, using(crate::proofs::Taking::step_allowed), unfolding(crate::specs::Promises::taken))]
+pub fn take<R: Room>(bank: &mut [u16], step: Step) -> Result<(), Refusal>
+    ensures { TakePromise (layout R.room) bank.old (step_of step) (given result) bank.new }
 {
-    step_in(bank, FULL, kind, a, b, c)
+    refusals::of_step::<R>(bank, step)?;
+    steps::apply::<R>(bank, step);
+    Ok(())
 }

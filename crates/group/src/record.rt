@@ -7,28 +7,28 @@ ghost use Rattle.group.specs.Writes.{fresh_record, sent, received, lost, marked}
 use bank::{Bank, Room, acked_at, flight_at, unsent_at};
 
 // A message as it is broadcast: held by its sender, who must send it to all n.
-pub(crate) fn write_fresh(record: &mut [u16], room: Room, n: u16, who: u16, s: u16, v: u16)
-    requires { (length «record».old ≡ record_size (layout room)) × (who < (layout room).controllers)
-        × (n ≤ (layout room).controllers) }
+pub(crate) fn write_fresh<R: Room>(record: &mut [u16], n: u16, who: u16, s: u16, v: u16)
+    requires { (length «record».old ≡ record_size (layout R.room)) × (who < (layout R.room).controllers)
+        × (n ≤ (layout R.room).controllers) }
     ensures { «record».new
-        ≡ changed (layout room) (fresh_record (layout room) n who s v) «record».old }
+        ≡ changed (layout R.room) (fresh_record (layout R.room) n who s v) «record».old }
 {
     bank::clear(&mut *record);
     record[Bank::SENDER] = who;
     record[Bank::STAMP] = s;
     record[Bank::VALUE] = v;
     record[Bank::HELD] = sets::join(0, who);
-    record[unsent_at(room, who)] = sets::all_below(n);
+    record[unsent_at::<R>(who)] = sets::all_below(n);
 }
 
 // The copy moves from unsent to in flight.
-pub(crate) fn send(record: &mut [u16], room: Room, from: u16, to: u16)
-    requires { (length «record».old ≡ record_size (layout room)) × (from < (layout room).controllers)
-        × (to < (layout room).controllers) }
-    ensures { «record».new ≡ changed (layout room) (sent from to) «record».old }
+pub(crate) fn send<R: Room>(record: &mut [u16], from: u16, to: u16)
+    requires { (length «record».old ≡ record_size (layout R.room)) × (from < (layout R.room).controllers)
+        × (to < (layout R.room).controllers) }
+    ensures { «record».new ≡ changed (layout R.room) (sent from to) «record».old }
 {
-    let u = unsent_at(room, from);
-    let f = flight_at(room, to);
+    let u = unsent_at::<R>(from);
+    let f = flight_at::<R>(to);
     let unsent = record[u];
     let in_flight = record[f];
     record[u] = sets::without(unsent, to);
@@ -48,14 +48,14 @@ fn relay(held: u16, unsent: u16, n: u16, i: u16) -> u16
 }
 
 // The copy leaves flight and its sender joins acked; a first copy is held from now on, and to be sent to all n.
-pub(crate) fn receive(record: &mut [u16], room: Room, n: u16, i: u16, from: u16)
-    requires { (length «record».old ≡ record_size (layout room)) × (i < (layout room).controllers)
-        × (from < (layout room).controllers) × (n ≤ (layout room).controllers) }
-    ensures { «record».new ≡ changed (layout room) (received n i from) «record».old }
+pub(crate) fn receive<R: Room>(record: &mut [u16], n: u16, i: u16, from: u16)
+    requires { (length «record».old ≡ record_size (layout R.room)) × (i < (layout R.room).controllers)
+        × (from < (layout R.room).controllers) × (n ≤ (layout R.room).controllers) }
+    ensures { «record».new ≡ changed (layout R.room) (received n i from) «record».old }
 {
-    let f = flight_at(room, i);
+    let f = flight_at::<R>(i);
     let a = acked_at(i);
-    let u = unsent_at(room, i);
+    let u = unsent_at::<R>(i);
     let in_flight = record[f];
     let acked = record[a];
     let held = record[Bank::HELD];
@@ -67,18 +67,18 @@ pub(crate) fn receive(record: &mut [u16], room: Room, n: u16, i: u16, from: u16)
 }
 
 // The copy leaves flight.
-pub(crate) fn lose(record: &mut [u16], room: Room, from: u16, to: u16)
-    requires { (length «record».old ≡ record_size (layout room)) × (to < (layout room).controllers) }
-    ensures { «record».new ≡ changed (layout room) (lost from to) «record».old }
+pub(crate) fn lose<R: Room>(record: &mut [u16], from: u16, to: u16)
+    requires { (length «record».old ≡ record_size (layout R.room)) × (to < (layout R.room).controllers) }
+    ensures { «record».new ≡ changed (layout R.room) (lost from to) «record».old }
 {
-    let f = flight_at(room, to);
+    let f = flight_at::<R>(to);
     record[f] = sets::without(record[f], from);
 }
 
 // Controller i has delivered the message.
-pub(crate) fn deliver(record: &mut [u16], room: Room, i: u16)
-    requires { (length «record».old ≡ record_size (layout room)) × (i < (layout room).controllers) }
-    ensures { «record».new ≡ changed (layout room) (marked i) «record».old }
+pub(crate) fn deliver<R: Room>(record: &mut [u16], i: u16)
+    requires { (length «record».old ≡ record_size (layout R.room)) × (i < (layout R.room).controllers) }
+    ensures { «record».new ≡ changed (layout R.room) (marked i) «record».old }
 {
     record[Bank::DELIVERED] = sets::join(record[Bank::DELIVERED], i);
 }

@@ -2,97 +2,96 @@
 // middle of the bank.
 ghost use Rattle.std.specs.Prelude.{◌≡◌};
 ghost use Rattle.bank.specs.Layout.{layout};
-ghost use Rattle.refusals.specs.Step;
-ghost use Rattle.refusals.specs.Step.{ask, asked};
-ghost use Rattle.refusals.specs.Promises.{Allowed, refusal_of};
-ghost use Rattle.group.specs.Promises.{after, asked_after};
+ghost use Rattle.refusals.specs.Step.{broadcast, send, receive, deliver, crash, detect, lose};
+ghost use Rattle.refusals.specs.Asking.{step_of};
+ghost use Rattle.refusals.specs.Promises.{Allowed};
+ghost use Rattle.group.specs.Promises.{after};
 
 use crate::record;
 use bank::{Bank, Room, record_at, record_end};
-use numbers::Kind;
+use refusals::Step;
 
-fn broadcast(bank: &mut [u16], room: Room, who: u16, stamp: u16, value: u16)
-    requires { Allowed (layout room) bank.old (Step.broadcast who stamp value) }
-    ensures { bank.new ≡ after (layout room) bank.old (Step.broadcast who stamp value) }
+fn broadcast<R: Room>(bank: &mut [u16], who: u16, stamp: u16, value: u16)
+    requires { Allowed (layout R.room) bank.old (broadcast who stamp value) }
+    ensures { bank.new ≡ after (layout R.room) bank.old (broadcast who stamp value) }
 {
     let n = bank[Bank::N];
     let m = bank[Bank::COUNT];
-    let a = record_at(room, m);
-    let e = record_end(room, m);
-    record::write_fresh(&mut bank[a..e], room, n, who, stamp, value);
+    let a = record_at::<R>(m);
+    let e = record_end::<R>(m);
+    record::write_fresh::<R>(&mut bank[a..e], n, who, stamp, value);
     bank[Bank::COUNT] = m + 1;
 }
 
-fn send(bank: &mut [u16], room: Room, from: u16, to: u16, m: u16)
-    requires { Allowed (layout room) bank.old (Step.send from to m) }
-    ensures { bank.new ≡ after (layout room) bank.old (Step.send from to m) }
+fn send<R: Room>(bank: &mut [u16], from: u16, to: u16, m: u16)
+    requires { Allowed (layout R.room) bank.old (send from to m) }
+    ensures { bank.new ≡ after (layout R.room) bank.old (send from to m) }
 {
-    let a = record_at(room, m);
-    let e = record_end(room, m);
-    record::send(&mut bank[a..e], room, from, to);
+    let a = record_at::<R>(m);
+    let e = record_end::<R>(m);
+    record::send::<R>(&mut bank[a..e], from, to);
 }
 
-fn receive(bank: &mut [u16], room: Room, i: u16, from: u16, m: u16)
-    requires { Allowed (layout room) bank.old (Step.receive i from m) }
-    ensures { bank.new ≡ after (layout room) bank.old (Step.receive i from m) }
+fn receive<R: Room>(bank: &mut [u16], i: u16, from: u16, m: u16)
+    requires { Allowed (layout R.room) bank.old (receive i from m) }
+    ensures { bank.new ≡ after (layout R.room) bank.old (receive i from m) }
 {
     let n = bank[Bank::N];
-    let a = record_at(room, m);
-    let e = record_end(room, m);
-    record::receive(&mut bank[a..e], room, n, i, from);
+    let a = record_at::<R>(m);
+    let e = record_end::<R>(m);
+    record::receive::<R>(&mut bank[a..e], n, i, from);
 }
 
-fn deliver(bank: &mut [u16], room: Room, i: u16, m: u16)
-    requires { Allowed (layout room) bank.old (Step.deliver i m) }
-    ensures { bank.new ≡ after (layout room) bank.old (Step.deliver i m) }
+fn deliver<R: Room>(bank: &mut [u16], i: u16, m: u16)
+    requires { Allowed (layout R.room) bank.old (deliver i m) }
+    ensures { bank.new ≡ after (layout R.room) bank.old (deliver i m) }
 {
-    let l = bank::length_at(room, i);
+    let l = bank::length_at::<R>(i);
     let length = bank[l];
-    let k = bank::log_at(room, i, length);
-    let a = record_at(room, m);
-    let e = record_end(room, m);
-    record::deliver(&mut bank[a..e], room, i);
+    let k = bank::log_at::<R>(i, length);
+    let a = record_at::<R>(m);
+    let e = record_end::<R>(m);
+    record::deliver::<R>(&mut bank[a..e], i);
     bank[k] = m;
     bank[l] = length + 1;
 }
 
-fn crash(bank: &mut [u16], room: Room, who: u16)
-    requires { Allowed (layout room) bank.old (Step.crash who) }
-    ensures { bank.new ≡ after (layout room) bank.old (Step.crash who) }
+fn crash<R: Room>(bank: &mut [u16], who: u16)
+    requires { Allowed (layout R.room) bank.old (crash who) }
+    ensures { bank.new ≡ after (layout R.room) bank.old (crash who) }
 {
     bank[Bank::UP] = sets::without(bank[Bank::UP], who);
 }
 
-fn detect(bank: &mut [u16], room: Room, i: u16, j: u16)
-    requires { Allowed (layout room) bank.old (Step.detect i j) }
-    ensures { bank.new ≡ after (layout room) bank.old (Step.detect i j) }
+fn detect<R: Room>(bank: &mut [u16], i: u16, j: u16)
+    requires { Allowed (layout R.room) bank.old (detect i j) }
+    ensures { bank.new ≡ after (layout R.room) bank.old (detect i j) }
 {
     let v = bank::view_at(i);
     bank[v] = sets::without(bank[v], j);
 }
 
-fn lose(bank: &mut [u16], room: Room, from: u16, to: u16, m: u16)
-    requires { Allowed (layout room) bank.old (Step.lose from to m) }
-    ensures { bank.new ≡ after (layout room) bank.old (Step.lose from to m) }
+fn lose<R: Room>(bank: &mut [u16], from: u16, to: u16, m: u16)
+    requires { Allowed (layout R.room) bank.old (lose from to m) }
+    ensures { bank.new ≡ after (layout R.room) bank.old (lose from to m) }
 {
-    let a = record_at(room, m);
-    let e = record_end(room, m);
-    record::lose(&mut bank[a..e], room, from, to);
+    let a = record_at::<R>(m);
+    let e = record_end::<R>(m);
+    record::lose::<R>(&mut bank[a..e], from, to);
 }
 
-// The step that four numbers ask for, once nothing refuses it.
-pub(crate) fn apply(bank: &mut [u16], room: Room, kind: u16, a: u16, b: u16, c: u16)
-    requires { refusal_of (layout room) bank.old (ask kind a b c) ≡ 0 }
-    ensures { bank.new ≡ asked_after (layout room) bank.old (asked (ask kind a b c)) }
+// A step, once nothing refuses it.
+pub(crate) fn apply<R: Room>(bank: &mut [u16], step: Step)
+    requires { Allowed (layout R.room) bank.old (step_of step) }
+    ensures { bank.new ≡ after (layout R.room) bank.old (step_of step) }
 {
-    match kind {
-        Kind::BROADCAST => broadcast(bank, room, a, b, c),
-        Kind::SEND => send(bank, room, a, b, c),
-        Kind::RECEIVE => receive(bank, room, a, b, c),
-        Kind::DELIVER => deliver(bank, room, a, b),
-        Kind::CRASH => crash(bank, room, a),
-        Kind::DETECT => detect(bank, room, a, b),
-        Kind::LOSE => lose(bank, room, a, b, c),
-        _ => {}
+    match step {
+        Step::Broadcast { who, stamp, value } => broadcast::<R>(bank, who, stamp, value),
+        Step::Send { from, to, message } => send::<R>(bank, from, to, message),
+        Step::Receive { at, from, message } => receive::<R>(bank, at, from, message),
+        Step::Deliver { at, message } => deliver::<R>(bank, at, message),
+        Step::Crash { who } => crash::<R>(bank, who),
+        Step::Detect { at, of } => detect::<R>(bank, at, of),
+        Step::Lose { from, to, message } => lose::<R>(bank, from, to, message),
     }
 }

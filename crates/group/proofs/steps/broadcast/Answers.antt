@@ -1,0 +1,26 @@
+-- broadcast: the next record is lent and written whole, and the count is one more.
+use Rattle.std.proofs.Common.{ℕ, ◌<◌, ◌+◌, [], ◌∷◌}
+use mathlib.Core.Path.{sym, ap, ◌∙◌}
+use borrow.Author.Tests.{ltb-true}
+use lib.ListN.{set}
+use Rattle.bank.specs.Place.{N, count, record_of, ◌≔◌}
+use Rattle.bank.specs.Layout.{layout, address, words, in_record}
+use Rattle.bank.proofs.Lending.{lends, lent_whole}
+use Rattle.bank.proofs.Reading.{puts-append}
+use Rattle.group.specs.Writes.{fresh_record}
+use Rattle.refusals.proofs.Granted.{broadcast_granted}
+use Rattle.group.proofs.Changes.{fresh_change}
+use Rattle.group.proofs.steps.broadcast.Goals as goal
+
+pub returns : goal.returns
+returns g c =
+    let L = layout g.R.Room.room in
+    let a = c.args in
+    let b = a.bank.now in
+    let m : ℕ = words L b count in
+    let next : m < L.messages = ltb-true _ _ (broadcast_granted L (words L b) a.stamp a.value c.requires.free).room in
+    let lending = lends c.requires.sound.whole next c.record_at-a.ensures c.record_end-e.ensures in
+    let new = fresh_record L (words L b N) a.who a.stamp a.value in
+    rw c.write_fresh.ensures
+    (ap (λ l. set l (address L count) (m + 1)) (lent_whole lending new (fresh_change L _ _ _ _))
+    ∙ sym (puts-append (address L) b (in_record m (new (record_of (words L b) m))) (count ≔ (m + 1) ∷ [])))
