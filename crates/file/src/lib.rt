@@ -2,37 +2,26 @@
 #![tactic(auto)]
 
 ghost use Rattle.std.specs.Prelude.{◌≡◌, ◌+◌, ◌≤◌, ◌<◌, length, get_or};
-ghost use Rattle.file.specs.Records.{record_length, number_at, well_cut};
-ghost use Rattle.file.specs.Promises.{WordPromise, FindPromise, BegunPromise};
+ghost use Rattle.file.specs.Records.{number_at, well_cut};
+ghost use Rattle.file.specs.Promises.{WordPromise, FindPromise, BegunPromise, LengthPromise};
 
-use numbers::{Kind, Refusal};
+use numbers::{Asked, Kind, Refusal};
 
 pub const OPEN: u16 = 16;
 
 pub const SETTLE: u16 = 17;
 
-// A kind, its numbers, 0 where it has none, and the place after the record.
-#[derive(Clone, Copy)]
+// A kind and its numbers, 0 where it has none, and the place after the record.
+#[derive(Clone, Copy, Debug, PartialEq, Eq)]
 pub struct Record {
-    pub kind: u16,
-    pub a: u16,
-    pub b: u16,
-    pub c: u16,
+    pub asked: Asked,
     pub next: usize,
-}
-
-// What stands at a place: the end, a bad record with its number, or a record.
-#[derive(Clone, Copy)]
-pub enum Found {
-    End,
-    Bad(u16),
-    Got(Record),
 }
 
 fn byte_at(s: &[u8], i: usize) -> u8
     ensures { result ≡ get_or s.now i 0 }
 {
-    if i < s.len() { s[i] } else { 0 }
+    s.get(i).copied().unwrap_or(0)
 }
 
 // Two bytes, the low one first; 0 past the end.
@@ -42,19 +31,24 @@ pub fn word_at(s: &[u8], i: usize) -> u16
     if s.len() <= i {
         return 0;
     }
-    byte_at(s, i) as u16 + 256 * (byte_at(s, i + 1) as u16)
+    u16::from_le_bytes([byte_at(s, i), byte_at(s, i + 1)])
 }
 
-// How many bytes follow the length in a record of a kind; 0 for an unknown kind.
+// How many bytes follow the length in a record of a known kind.
 #[tactic(auto, unfolding(crate::specs::Records::record_length))]
-fn record_length(kind: u16) -> u16
-    ensures { result ≡ record_length kind }
+fn record_length(kind: u16) -> Option<u16>
+    ensures { LengthPromise kind result }
 {
     match kind {
-        Kind::BROADCAST | Kind::SEND | Kind::RECEIVE | Kind::LOSE => 8,
-        Kind::DELIVER | Kind::DETECT | OPEN => 6,
-        Kind::CRASH | SETTLE => 4,
-        _ => 0,
+        OPEN => return Some(6),
+        SETTLE => return Some(4),
+        _ => {}
+    }
+    match Kind::try_from(kind) {
+        Ok(Kind::Broadcast | Kind::Send | Kind::Receive | Kind::Lose) => Some(8),
+        Ok(Kind::Deliver | Kind::Detect) => Some(6),
+        Ok(Kind::Crash) => Some(4),
+        Err(_) => None,
     }
 }
 
@@ -64,17 +58,8 @@ fn well_cut(s: &[u8], i: usize) -> bool
     ensures { result ≡ well_cut s.now i }
 {
     let left = s.len() - i;
-    if left < 2 {
-        return false;
-    }
     let n = word_at(s, i);
-    if left - 2 < n as usize {
-        return false;
-    }
-    if n % 2 != 0 {
-        return false;
-    }
-    n >= 4
+    2 <= left && usize::from(n) <= left - 2 && n % 2 == 0 && 4 <= n
 }
 
 // The k-th number of the record at place i, 0 where the record is too short for it.
@@ -85,38 +70,30 @@ fn number_at(s: &[u8], i: usize, k: u16) -> u16
     if word_at(s, i) < 2 + 2 * k {
         return 0;
     }
-    word_at(s, i + 2 + 2 * (k as usize))
+    word_at(s, i + 2 + 2 * usize::from(k))
 }
 
-// What stands at place i, after the file's first record.
+// What stands at place i, after the file's first record: the end, a record, or one that is bad.
 #[tactic(auto, unfolding(crate::specs::Records::find_at, crate::specs::Records::record_length))]
-pub fn find_at(s: &[u8], i: usize) -> Found
+pub fn find_at(s: &[u8], i: usize) -> Result<Option<Record>, Refusal>
     ensures { FindPromise s.now i result }
 {
     if s.len() <= i {
-        return Found::End;
+        return Ok(None);
     }
-    if !well_cut(s, i) {
-        return Found::Bad(Refusal::BAD_RECORD);
-    }
+    Refusal::BadRecord.unless(well_cut(s, i))?;
     let kind = word_at(s, i + 2);
-    let length = record_length(kind);
-    if length == 0 {
-        return Found::Bad(Refusal::NO_STEP);
-    }
-    if kind == OPEN {
-        return Found::Bad(Refusal::NO_STEP);
-    }
-    if word_at(s, i) != length {
-        return Found::Bad(Refusal::BAD_RECORD);
-    }
-    Found::Got(Record {
+    let length = record_length(kind).ok_or(Refusal::NoStep)?;
+    Refusal::NoStep.unless(kind != OPEN)?;
+    Refusal::BadRecord.unless(word_at(s, i) == length)?;
+    let asked = Asked {
         kind,
         a: number_at(s, i, 1),
         b: number_at(s, i, 2),
         c: number_at(s, i, 3),
-        next: i + 2 + length as usize,
-    })
+    };
+    let next = i + 2 + usize::from(length);
+    Ok(Some(Record { asked, next }))
 }
 
 // Whether a file is short enough and begun by a whole open.
@@ -124,14 +101,5 @@ pub fn find_at(s: &[u8], i: usize) -> Found
 pub fn begun(s: &[u8]) -> bool
     ensures { BegunPromise s.now result }
 {
-    if s.len() > 65536 {
-        return false;
-    }
-    if s.len() < 8 {
-        return false;
-    }
-    if word_at(s, 0) != 6 {
-        return false;
-    }
-    word_at(s, 2) == OPEN
+    s.len() <= 65536 && 8 <= s.len() && word_at(s, 0) == 6 && word_at(s, 2) == OPEN
 }
