@@ -6,5 +6,6 @@ use Rattle.lists.proofs.logs.log_in.Goals as goal
 
 pub slice_bounds-result-end-2 : goal.slice_bounds-result-end-2
 slice_bounds-result-end-2 c =
-    let (free, n) = c.log_length_in-l.ensures in
-    omega (arith, c.log_at-e.ensures, log_ends (layout c.args.room) c.args.bank.now c.args.who _ (sym free ∙ c.if-l-ne-DONE.false) n)
+    let (refusal, length) = c.log_length_in-l.ensures in
+    let free = sym refusal ∙ c.if-l-ne-DONE.false in
+    omega (arith, c.log_at-e.ensures, log_ends (layout c.args.room) c.args.bank.now c.args.who _ free length)
