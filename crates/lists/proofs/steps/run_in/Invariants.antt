@@ -1,4 +1,5 @@
--- run_in: at every turn the answer of the whole list is the answer from step `accepted` on, over the bank as it then is.
+-- run_in: at every turn the answer of the whole list is the answer from step `accepted` on, over the bank as it then
+-- is.
 use Rattle.std.proofs.Common.{◌≡◌, ◌*◌, drop}
 use Rattle.bank.specs.Layout.{layout}
 use Rattle.lists.specs.Lists.{run_from, run_of}
