@@ -5,12 +5,14 @@ use mathlib.Core.List.{List}
 use Prim.Native.Nat.{ℕ, ◌≤◌, ◌<◌}
 use native.Mathlib.Omega.{arith}
 use borrow.Author.Tests.{eq-eqb, ne_eqb, ltb-true, leb-true}
+use lib.ListN.{length}
 use Rattle.sets.proofs.Counts.{every-at}
-use Rattle.bank.specs.Place.{N, count, log_length}
-use Rattle.bank.specs.Layout.{Layout, words}
+use Rattle.bank.specs.Place.{N, count, log_length, log}
+use Rattle.bank.specs.Layout.{Layout, address, size, words}
 use Rattle.bank.specs.Fit.{Fit, fit, log_fits}
 use Rattle.refusals.specs.State.{is_controller}
 use Rattle.lists.specs.Logs.{log_refusal, used_length}
+use Rattle.bank.proofs.Places.{log-within}
 use Rattle.bank.proofs.Rules.{pass, stop}
 use Rattle.bank.proofs.Fitness.{fit_facts}
 
@@ -51,3 +53,12 @@ module _ (L : Layout) (b : List ℕ) (who : ℕ) where
             there = l;
             short = leb-true _ _ (every-at (log_fits (words L b)) (words L b N) s.logs who l);
           }
+
+  -- the used part ends within the bank
+  pub log_ends : (n : ℕ) → log_refusal L b who ≡ 0 → n ≡ used_length L b who → address L (log who n) ≤ length b
+  log_ends n e q =
+      let k = log-asked e in
+      let w = whole_length e in
+      let at : address L (log who n) ≤ size L =
+      log-within L who n (omega (arith, k.there, k.sound.few)) (omega (arith, k.short, k.sound.given)) in
+      omega (arith, k.sound.whole)

@@ -16,6 +16,7 @@ pub struct Ran {
 }
 
 // Four words a step; what was applied before a refused step stays and is counted.
+#[tactic(auto, using(crate::proofs::StepByStep::step_by_step))]
 fn run_in(bank: &mut [u16], room: Room, steps: &[u16]) -> Ran
     ensures { RunPromise (layout room) bank.old steps.now result.accepted result.refusal
         bank.new }
@@ -26,31 +27,20 @@ fn run_in(bank: &mut [u16], room: Room, steps: &[u16]) -> Ran
             refusal: Refusal::UNFIT,
         };
     }
-    if steps.len() % 4 != 0 {
+    let (steps, []) = steps.as_chunks::<4>() else {
         return Ran {
             accepted: 0,
             refusal: Refusal::BAD_RECORD,
         };
-    }
-    let mut i: usize = 0;
-    let mut accepted: usize = 0;
-    while i < steps.len() {
-        let refusal = step_in(
-            bank,
-            room,
-            steps[i],
-            steps[i + 1],
-            steps[i + 2],
-            steps[i + 3],
-        );
+    };
+    for (accepted, &[kind, a, b, c]) in steps.iter().enumerate() {
+        let refusal = step_in(bank, room, kind, a, b, c);
         if refusal != Refusal::DONE {
             return Ran { accepted, refusal };
         }
-        accepted += 1;
-        i += 4;
     }
     Ran {
-        accepted,
+        accepted: steps.len(),
         refusal: Refusal::DONE,
     }
 }

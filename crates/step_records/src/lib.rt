@@ -18,6 +18,7 @@ pub struct Step {
 }
 
 // Applies the steps in order up to the first refusal; what was applied before it stays and is counted.
+#[tactic(auto, using(crate::proofs::ByRecord::by_record))]
 pub fn run_steps(bank: &mut [u16], steps: &[Step]) -> Ran
     ensures { StepsPromise bank.old steps.now result.accepted result.refusal
         bank.new }
@@ -28,20 +29,14 @@ pub fn run_steps(bank: &mut [u16], steps: &[Step]) -> Ran
             refusal: Refusal::UNFIT,
         };
     }
-    let mut i: usize = 0;
-    while i < steps.len() {
-        let s = steps[i];
-        let r = group::step(bank, s.kind, s.a, s.b, s.c);
-        if r != Refusal::DONE {
-            return Ran {
-                accepted: i,
-                refusal: r,
-            };
+    for (accepted, s) in steps.iter().enumerate() {
+        let refusal = group::step(bank, s.kind, s.a, s.b, s.c);
+        if refusal != Refusal::DONE {
+            return Ran { accepted, refusal };
         }
-        i += 1;
     }
     Ran {
-        accepted: i,
+        accepted: steps.len(),
         refusal: Refusal::DONE,
     }
 }

@@ -1,3 +1,3 @@
 -- Laws that belong to no one function.
-pub mod Copying  -- what a copy has done after some words
+pub mod Copying  -- a copy as far as both slices reach
 pub mod Determined  -- what the promise allows is one length and one buffer

@@ -43,12 +43,10 @@ pub extern "C" fn words_log(bank: &[u16], who: u16, out: &mut [u16]) -> usize
 }
 
 // The words of the one in the other from its start on, as far as it reaches.
+#[tactic(auto, using(crate::proofs::Copying::front_copied))]
 fn copy(from: &[u16], to: &mut [u16])
     ensures { Copied from.now to.old to.new }
 {
-    let mut i: usize = 0;
-    while i < from.len() && i < to.len() {
-        to[i] = from[i];
-        i += 1;
-    }
+    let n = from.len().min(to.len());
+    to[..n].copy_from_slice(&from[..n]);
 }
