@@ -9,7 +9,6 @@ ghost use Rattle.settler.specs.Settling.{SettlePromise};
 
 use bank::{FULL, Room};
 use numbers::Refusal;
-use search::Next;
 
 // 0 or 1, the steps taken, and whether no step is left.
 #[derive(Clone, Copy)]
@@ -31,10 +30,8 @@ fn settle_in(bank: &mut [u16], room: Room, budget: u16) -> Settled
             quiet: false,
         };
     }
-    let mut steps: u16 = 0;
-    while steps < budget {
-        let next = search::first_step(bank, room);
-        let Next::Take(m) = next else {
+    for steps in 0..budget {
+        let Some(m) = search::first_step(bank, room) else {
             return Settled {
                 refusal: Refusal::DONE,
                 steps,
@@ -42,12 +39,11 @@ fn settle_in(bank: &mut [u16], room: Room, budget: u16) -> Settled
             };
         };
         group::step_in(bank, room, m.kind, m.a, m.b, m.c);
-        steps += 1;
     }
     Settled {
         refusal: Refusal::DONE,
-        steps,
-        quiet: search::is_quiet(bank, room),
+        steps: budget,
+        quiet: search::first_step(bank, room).is_none(),
     }
 }
 

@@ -1,13 +1,12 @@
 // The first step that the settler may take in a fit bank. Whole set words are looked at, and the lowest member taken;
 // reads the bank, writes nothing.
-ghost use Rattle.std.specs.Prelude.{◌≡◌, map, true, false, ◌<◌};
+ghost use Rattle.std.specs.Prelude.{◌≡◌, map, ◌<◌};
 ghost use Rattle.bank.specs.Place.{N, count, message};
 ghost use Rattle.bank.specs.Layout.{layout, words};
 ghost use Rattle.refusals.specs.Step.{detect, deliver};
 ghost use Rattle.settler.specs.Candidates;
 ghost use Rattle.settler.specs.Candidates.{below, pairs, of_message, first_of, free};
 ghost use Rattle.settler.specs.Moves.{next_of, CopyKind, copy_step, copy_set};
-ghost use Rattle.settler.specs.Settling.{on_next};
 
 use bank::{Bank, Room};
 use numbers::{Kind, Mode, Refusal};
@@ -21,30 +20,22 @@ pub struct Move {
     pub c: u16,
 }
 
-// The step to take next, if one is left.
-#[derive(Clone, Copy)]
-pub enum Next {
-    Quiet,
-    Take(Move),
-}
-
 // The first detect: a controller that is up, and the lowest that it still takes to be up and that is down.
-fn first_detect(bank: &[u16], room: Room) -> Next
+fn first_detect(bank: &[u16], room: Room) -> Option<Move>
     ensures { result
         ≡ next_of (first_of (free (layout room) bank.now)
         (pairs (words (layout room) bank.now N) detect)) }
 {
+    if bank::word(bank, Bank::MODE) != Mode::ALL_ACK {
+        return None;
+    }
     let n = bank::word(bank, Bank::N);
     let up = bank::word(bank, Bank::UP);
-    if bank::word(bank, Bank::MODE) != Mode::ALL_ACK {
-        return Next::Quiet;
-    }
-    let mut i = 0;
-    while i < n {
+    for i in 0..n {
         if sets::has(up, i) {
             let j = sets::lowest(sets::less(bank::view(bank, i), up), n);
             if j < n {
-                return Next::Take(Move {
+                return Some(Move {
                     kind: Kind::DETECT,
                     a: i,
                     b: j,
@@ -52,9 +43,8 @@ fn first_detect(bank: &[u16], room: Room) -> Next
                 });
             }
         }
-        i += 1;
     }
-    Next::Quiet
+    None
 }
 
 // The set word that decides a copy of message m at controller i: to whom it must send, or from whom one is on its way.
@@ -69,7 +59,7 @@ fn copies(bank: &[u16], room: Room, kind: u16, m: u16, i: u16) -> u16
 }
 
 // The first copy of message m that is to be sent or received, by the kind, by a controller that is up.
-fn first_copy(bank: &[u16], room: Room, kind: u16, m: u16) -> Next
+fn first_copy(bank: &[u16], room: Room, kind: u16, m: u16) -> Option<Move>
     requires { (m < words (layout room) bank.now count) × CopyKind kind }
     ensures { result
         ≡ next_of (first_of (free (layout room) bank.now)
@@ -77,12 +67,11 @@ fn first_copy(bank: &[u16], room: Room, kind: u16, m: u16) -> Next
 {
     let n = bank::word(bank, Bank::N);
     let up = bank::word(bank, Bank::UP);
-    let mut i = 0;
-    while i < n {
+    for i in 0..n {
         if sets::has(up, i) {
             let j = sets::lowest(copies(bank, room, kind, m, i), n);
             if j < n {
-                return Next::Take(Move {
+                return Some(Move {
                     kind,
                     a: i,
                     b: j,
@@ -90,77 +79,54 @@ fn first_copy(bank: &[u16], room: Room, kind: u16, m: u16) -> Next
                 });
             }
         }
-        i += 1;
     }
-    Next::Quiet
+    None
 }
 
 // The first delivery of message m; only those who hold it and have not delivered it are asked about.
-fn first_deliver(bank: &[u16], room: Room, m: u16) -> Next
+fn first_deliver(bank: &[u16], room: Room, m: u16) -> Option<Move>
     ensures { result
         ≡ next_of (first_of (free (layout room) bank.now)
         (map (λ i. deliver i m) (below (words (layout room) bank.now N)))) }
 {
-    let n = bank::word(bank, Bank::N);
     let waiting = sets::less(bank::held(bank, room, m), bank::delivered(bank, room, m));
-    let mut i = 0;
-    while i < n {
-        if sets::has(waiting, i) {
-            if refusals::delivery_refusal(bank, room, i, m) == Refusal::DONE {
-                return Next::Take(Move {
-                    kind: Kind::DELIVER,
-                    a: i,
-                    b: m,
-                    c: 0,
-                });
-            }
+    for i in 0..bank::word(bank, Bank::N) {
+        if sets::has(waiting, i) && refusals::delivery_refusal(bank, room, i, m) == Refusal::DONE {
+            return Some(Move {
+                kind: Kind::DELIVER,
+                a: i,
+                b: m,
+                c: 0,
+            });
         }
-        i += 1;
     }
-    Next::Quiet
+    None
 }
 
 // Of one message: its sends, then its receipts, then its deliveries.
-fn first_of_message(bank: &[u16], room: Room, m: u16) -> Next
+#[tactic(auto, using(crate::proofs::Taking::next_joined))]
+fn first_of_message(bank: &[u16], room: Room, m: u16) -> Option<Move>
     requires { m < words (layout room) bank.now count }
     ensures { result
         ≡ next_of (first_of (free (layout room) bank.now)
         (of_message (words (layout room) bank.now N) m)) }
 {
-    let sent = first_copy(bank, room, Kind::SEND, m);
-    if let Next::Take(s) = sent {
-        return Next::Take(s);
-    }
-    let received = first_copy(bank, room, Kind::RECEIVE, m);
-    if let Next::Take(s) = received {
-        return Next::Take(s);
-    }
-    first_deliver(bank, room, m)
+    first_copy(bank, room, Kind::SEND, m)
+        .or_else(|| first_copy(bank, room, Kind::RECEIVE, m))
+        .or_else(|| first_deliver(bank, room, m))
 }
 
 // Detects first, then the messages in turn.
-pub(crate) fn first_step(bank: &[u16], room: Room) -> Next
+pub(crate) fn first_step(bank: &[u16], room: Room) -> Option<Move>
     ensures { result ≡ next_of (Candidates.next (layout room) bank.now) }
 {
-    let detected = first_detect(bank, room);
-    if let Next::Take(s) = detected {
-        return Next::Take(s);
+    if let Some(step) = first_detect(bank, room) {
+        return Some(step);
     }
-    let count = bank::word(bank, Bank::COUNT);
-    let mut m = 0;
-    while m < count {
-        let of_message = first_of_message(bank, room, m);
-        if let Next::Take(s) = of_message {
-            return Next::Take(s);
+    for m in 0..bank::word(bank, Bank::COUNT) {
+        if let Some(step) = first_of_message(bank, room, m) {
+            return Some(step);
         }
-        m += 1;
     }
-    Next::Quiet
-}
-
-pub(crate) fn is_quiet(bank: &[u16], room: Room) -> bool
-    ensures { result ≡ on_next (Candidates.next (layout room) bank.now) true (λ _. false) }
-{
-    let left = first_step(bank, room);
-    if let Next::Quiet = left { true } else { false }
+    None
 }
