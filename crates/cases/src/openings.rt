@@ -7,16 +7,21 @@ use std::io::Print;
 
 pub(crate) fn show(rt: &impl Print) -> io::Result<()> {
     let mut bank = [0u16; Bank::WORDS];
-    say::refusal(rt, b"open N 0", bank::open(&mut bank, 0, Mode::ALL_ACK))?;
-    say::refusal(rt, b"open N 1", bank::open(&mut bank, 1, Mode::ALL_ACK))?;
-    say::refusal(rt, b"open N 16", bank::open(&mut bank, 16, Mode::ALL_ACK))?;
-    say::refusal(rt, b"open N 17", bank::open(&mut bank, 17, Mode::ALL_ACK))?;
-    say::refusal(rt, b"open mode 0", bank::open(&mut bank, 3, 0))?;
-    say::refusal(rt, b"open mode 2", bank::open(&mut bank, 3, Mode::MAJORITY))?;
-    say::refusal(rt, b"open mode 3", bank::open(&mut bank, 3, 3))?;
+    let openings = [
+        ("open N 0", 0, Mode::ALL_ACK),
+        ("open N 1", 1, Mode::ALL_ACK),
+        ("open N 16", 16, Mode::ALL_ACK),
+        ("open N 17", 17, Mode::ALL_ACK),
+        ("open mode 0", 3, 0),
+        ("open mode 2", 3, Mode::MAJORITY),
+        ("open mode 3", 3, 3),
+    ];
+    for (what, n, mode) in openings {
+        say::refusal(rt, what, bank::open(&mut bank, n, mode))?;
+    }
     say::refusal(
         rt,
-        b"open a bank one word short",
+        "open a bank one word short",
         bank::open(&mut bank[1..], 3, Mode::ALL_ACK),
     )
 }

@@ -6,18 +6,18 @@ use numbers::{Kind, Mode};
 use std::io;
 use std::io::Print;
 
-fn say_ran(rt: &impl Print, what: &[u8], r: lists::Ran) -> io::Result<()> {
-    say::part(rt, what, b": accepted", r.accepted as u64)?;
-    say::part(rt, what, b": refusal", r.refusal as u64)
+fn say_ran(rt: &impl Print, what: &str, r: lists::Ran) -> io::Result<()> {
+    println!(rt; "{what}: accepted {}", r.accepted)?;
+    println!(rt; "{what}: refusal {}", r.refusal)
 }
 
 fn ragged_lists(rt: &impl Print) -> io::Result<()> {
     let mut bank = opened(2, Mode::ALL_ACK);
     let ragged = [5u16, 0, 0];
-    say_ran(rt, b"ragged list", lists::run(&mut bank, &ragged))?;
+    say_ran(rt, "ragged list", lists::run(&mut bank, &ragged))?;
     say_ran(
         rt,
-        b"ragged list on a bank one word short",
+        "ragged list on a bank one word short",
         lists::run(&mut bank[1..], &ragged),
     )
 }
@@ -26,46 +26,35 @@ fn ragged_lists(rt: &impl Print) -> io::Result<()> {
 fn lists(rt: &impl Print) -> io::Result<()> {
     let mut bank = opened(2, Mode::ALL_ACK);
     let whole = [1u16, 0, 95, 7, 2, 0, 0, 0];
-    say_ran(rt, b"list of two steps", lists::run(&mut bank, &whole))?;
-    say_ran(rt, b"empty list", lists::run(&mut bank, &whole[8..]))?;
+    say_ran(rt, "list of two steps", lists::run(&mut bank, &whole))?;
+    say_ran(rt, "empty list", lists::run(&mut bank, &whole[8..]))?;
     let stopped = [1u16, 0, 95, 7, 2, 0, 1, 0, 2, 0, 1, 0, 5, 0, 0, 0];
     say_ran(
         rt,
-        b"list with a send twice",
+        "list with a send twice",
         lists::run(&mut bank, &stopped),
     )?;
-    say::refusal(
+    say::steps(
         rt,
-        b"receive of the copy that it sent",
-        group::step(&mut bank, Kind::RECEIVE, 1, 0, 0),
-    )?;
-    say::refusal(
-        rt,
-        b"the crash that it did not reach",
-        group::step(&mut bank, Kind::CRASH, 0, 0, 0),
+        &mut bank,
+        &[
+            ("receive of the copy that it sent", Kind::RECEIVE, [1, 0, 0]),
+            ("the crash that it did not reach", Kind::CRASH, [0, 0, 0]),
+        ],
     )
 }
 
-fn say_entry(rt: &impl Print, what: &[u8], m: u16) -> io::Result<()> {
-    say::part(rt, what, b": entry", m as u64)
-}
-
-fn say_entries(rt: &impl Print, what: &[u8], log: &[u16]) -> io::Result<()> {
-    say::part(rt, what, b": entries", log.len() as u64)?;
-    let mut k = 0;
-    while k < log.len() {
-        say_entry(rt, what, log[k])?;
-        k += 1;
-    }
-    Ok(())
-}
-
 // Both questions about a log.
-fn say_log(rt: &impl Print, what: &[u8], bank: &[u16], who: u16) -> io::Result<()> {
+fn say_log(rt: &impl Print, what: &str, bank: &[u16], who: u16) -> io::Result<()> {
     let l = lists::log_length(bank, who);
     say::refusal(rt, what, l.refusal)?;
-    say::part(rt, what, b": length", l.length as u64)?;
-    say_entries(rt, what, lists::log(bank, who))
+    println!(rt; "{what}: length {}", l.length)?;
+    let log = lists::log(bank, who);
+    println!(rt; "{what}: entries {}", log.len())?;
+    for m in log {
+        println!(rt; "{what}: entry {m}")?;
+    }
+    Ok(())
 }
 
 // Controller 1 is alone and delivers its two readings, the later one first.
@@ -84,42 +73,35 @@ fn read_twice() -> [u16; Bank::WORDS] {
 
 fn logs(rt: &impl Print) -> io::Result<()> {
     let mut bank = read_twice();
-    say_log(rt, b"log of controller 0 of 2", &bank, 0)?;
-    say_log(rt, b"log of controller 1 of 2", &bank, 1)?;
-    say_log(rt, b"log of controller 2 of 2", &bank, 2)?;
+    say_log(rt, "log of controller 0 of 2", &bank, 0)?;
+    say_log(rt, "log of controller 1 of 2", &bank, 1)?;
+    say_log(rt, "log of controller 2 of 2", &bank, 2)?;
     bank[bank::length_at(FULL, 0)] = 3;
-    say_log(rt, b"log in an unfit bank", &bank, 1)
+    say_log(rt, "log in an unfit bank", &bank, 1)
 }
 
-fn say_day(rt: &impl Print, what: &[u8], t: day::DayAnswer) -> io::Result<()> {
+fn say_day(rt: &impl Print, what: &str, bank: &[u16], who: u16, on: u16) -> io::Result<()> {
+    let t = day::tally_day(bank, who, on);
     say::refusal(rt, what, t.refusal)?;
-    say::part(rt, what, b": count", t.count as u64)?;
-    say::part(rt, what, b": sum", t.sum as u64)
+    println!(rt; "{what}: count {}", t.count)?;
+    println!(rt; "{what}: sum {}", t.sum)
 }
 
 fn days(rt: &impl Print) -> io::Result<()> {
     let bank = read_twice();
-    say_day(rt, b"day 681", day::tally_day(&bank, 1, 681))?;
-    say_day(rt, b"day 682", day::tally_day(&bank, 1, 682))?;
-    say_day(rt, b"day 683", day::tally_day(&bank, 1, 683))?;
-    say_day(
-        rt,
-        b"day 683 of controller 2 of 2",
-        day::tally_day(&bank, 2, 683),
-    )
+    say_day(rt, "day 681", &bank, 1, 681)?;
+    say_day(rt, "day 682", &bank, 1, 682)?;
+    say_day(rt, "day 683", &bank, 1, 683)?;
+    say_day(rt, "day 683 of controller 2 of 2", &bank, 2, 683)
 }
 
 // The second entry of the log is no message, or the bank is unfit.
 fn spoilt_days(rt: &impl Print) -> io::Result<()> {
     let mut bank = read_twice();
     bank[bank::log_at(FULL, 1, 1)] = 2;
-    say_day(
-        rt,
-        b"day of a log with an entry not given",
-        day::tally_day(&bank, 1, 682),
-    )?;
+    say_day(rt, "day of a log with an entry not given", &bank, 1, 682)?;
     bank[Bank::N] = 0;
-    say_day(rt, b"day in an unfit bank", day::tally_day(&bank, 1, 683))
+    say_day(rt, "day in an unfit bank", &bank, 1, 683)
 }
 
 pub(crate) fn show(rt: &impl Print) -> io::Result<()> {

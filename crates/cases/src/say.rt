@@ -2,17 +2,18 @@
 use std::io;
 use std::io::Print;
 
-pub(crate) fn number(rt: &impl Print, what: &[u8], got: u64) -> io::Result<()> {
-    rt.write_all(what)?;
-    println!(rt; " {got}")
+pub(crate) fn refusal(rt: &impl Print, what: &str, got: u16) -> io::Result<()> {
+    println!(rt; "{what} {got}")
 }
 
-pub(crate) fn refusal(rt: &impl Print, what: &[u8], got: u16) -> io::Result<()> {
-    number(rt, what, got as u64)
-}
-
-// What an answer gives beside its refusal.
-pub(crate) fn part(rt: &impl Print, what: &[u8], of: &[u8], got: u64) -> io::Result<()> {
-    rt.write_all(what)?;
-    number(rt, of, got)
+// The answer to each step, asked one after the other: its name, its kind and its three numbers.
+pub(crate) fn steps(
+    rt: &impl Print,
+    bank: &mut [u16],
+    asked: &[(&str, u16, [u16; 3])],
+) -> io::Result<()> {
+    for &(what, kind, [a, b, c]) in asked {
+        refusal(rt, what, group::step(bank, kind, a, b, c))?;
+    }
+    Ok(())
 }

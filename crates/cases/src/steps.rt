@@ -15,209 +15,114 @@ pub(crate) fn opened(n: u16, mode: u16) -> [u16; Bank::WORDS] {
 fn unfit(rt: &impl Print) -> io::Result<()> {
     let mut bank = opened(3, Mode::ALL_ACK);
     bank[Bank::MODE] = 3;
-    say::refusal(
+    say::steps(
         rt,
-        b"step in an unfit bank",
-        group::step(&mut bank, Kind::CRASH, 0, 0, 0),
-    )?;
-    say::refusal(
-        rt,
-        b"step of no kind in an unfit bank",
-        group::step(&mut bank, 9, 0, 0, 0),
+        &mut bank,
+        &[
+            ("step in an unfit bank", Kind::CRASH, [0, 0, 0]),
+            ("step of no kind in an unfit bank", 9, [0, 0, 0]),
+        ],
     )
 }
 
 fn not_asked(rt: &impl Print) -> io::Result<()> {
-    let mut bank = opened(3, Mode::ALL_ACK);
-    say::refusal(rt, b"kind 0", group::step(&mut bank, 0, 0, 0, 0))?;
-    say::refusal(rt, b"kind 8", group::step(&mut bank, 8, 0, 0, 0))?;
-    say::refusal(
+    say::steps(
         rt,
-        b"deliver with a third number",
-        group::step(&mut bank, Kind::DELIVER, 0, 0, 1),
-    )?;
-    say::refusal(
-        rt,
-        b"crash with a second number",
-        group::step(&mut bank, Kind::CRASH, 0, 1, 0),
-    )?;
-    say::refusal(
-        rt,
-        b"crash with a third number",
-        group::step(&mut bank, Kind::CRASH, 0, 0, 1),
-    )?;
-    say::refusal(
-        rt,
-        b"detect with a third number",
-        group::step(&mut bank, Kind::DETECT, 0, 1, 1),
+        &mut opened(3, Mode::ALL_ACK),
+        &[
+            ("kind 0", 0, [0, 0, 0]),
+            ("kind 8", 8, [0, 0, 0]),
+            ("deliver with a third number", Kind::DELIVER, [0, 0, 1]),
+            ("crash with a second number", Kind::CRASH, [0, 1, 0]),
+            ("crash with a third number", Kind::CRASH, [0, 0, 1]),
+            ("detect with a third number", Kind::DETECT, [0, 1, 1]),
+        ],
     )
 }
 
 fn not_there(rt: &impl Print) -> io::Result<()> {
-    let mut bank = opened(3, Mode::ALL_ACK);
-    say::refusal(
+    say::steps(
         rt,
-        b"broadcast by controller 3 of 3",
-        group::step(&mut bank, Kind::BROADCAST, 3, 0, 0),
-    )?;
-    say::refusal(
-        rt,
-        b"send to controller 3 of 3",
-        group::step(&mut bank, Kind::SEND, 0, 3, 0),
-    )?;
-    say::refusal(
-        rt,
-        b"receive from controller 3 of 3",
-        group::step(&mut bank, Kind::RECEIVE, 0, 3, 0),
-    )?;
-    say::refusal(
-        rt,
-        b"deliver by controller 3 of 3",
-        group::step(&mut bank, Kind::DELIVER, 3, 0, 0),
-    )?;
-    say::refusal(
-        rt,
-        b"crash of controller 3 of 3",
-        group::step(&mut bank, Kind::CRASH, 3, 0, 0),
-    )?;
-    say::refusal(
-        rt,
-        b"detect of controller 3 of 3",
-        group::step(&mut bank, Kind::DETECT, 0, 3, 0),
-    )?;
-    say::refusal(
-        rt,
-        b"lose from controller 3 of 3",
-        group::step(&mut bank, Kind::LOSE, 3, 0, 0),
+        &mut opened(3, Mode::ALL_ACK),
+        &[
+            ("broadcast by controller 3 of 3", Kind::BROADCAST, [3, 0, 0]),
+            ("send to controller 3 of 3", Kind::SEND, [0, 3, 0]),
+            ("receive from controller 3 of 3", Kind::RECEIVE, [0, 3, 0]),
+            ("deliver by controller 3 of 3", Kind::DELIVER, [3, 0, 0]),
+            ("crash of controller 3 of 3", Kind::CRASH, [3, 0, 0]),
+            ("detect of controller 3 of 3", Kind::DETECT, [0, 3, 0]),
+            ("lose from controller 3 of 3", Kind::LOSE, [3, 0, 0]),
+        ],
     )
 }
 
 fn not_given(rt: &impl Print) -> io::Result<()> {
-    let mut bank = opened(3, Mode::ALL_ACK);
-    say::refusal(
+    say::steps(
         rt,
-        b"send of a message not given",
-        group::step(&mut bank, Kind::SEND, 0, 1, 0),
-    )?;
-    say::refusal(
-        rt,
-        b"receive of a message not given",
-        group::step(&mut bank, Kind::RECEIVE, 0, 1, 0),
-    )?;
-    say::refusal(
-        rt,
-        b"deliver of a message not given",
-        group::step(&mut bank, Kind::DELIVER, 0, 0, 0),
-    )?;
-    say::refusal(
-        rt,
-        b"lose of a message not given",
-        group::step(&mut bank, Kind::LOSE, 0, 1, 0),
+        &mut opened(3, Mode::ALL_ACK),
+        &[
+            ("send of a message not given", Kind::SEND, [0, 1, 0]),
+            ("receive of a message not given", Kind::RECEIVE, [0, 1, 0]),
+            ("deliver of a message not given", Kind::DELIVER, [0, 0, 0]),
+            ("lose of a message not given", Kind::LOSE, [0, 1, 0]),
+        ],
     )
 }
 
 fn down(rt: &impl Print) -> io::Result<()> {
-    let mut bank = opened(3, Mode::MAJORITY);
-    say::refusal(
+    say::steps(
         rt,
-        b"detect in majority mode",
-        group::step(&mut bank, Kind::DETECT, 0, 1, 0),
-    )?;
-    say::refusal(rt, b"crash", group::step(&mut bank, Kind::CRASH, 0, 0, 0))?;
-    say::refusal(
-        rt,
-        b"broadcast by one that is down",
-        group::step(&mut bank, Kind::BROADCAST, 0, 0, 0),
-    )?;
-    say::refusal(
-        rt,
-        b"crash of one that is down",
-        group::step(&mut bank, Kind::CRASH, 0, 0, 0),
-    )?;
-    say::refusal(
-        rt,
-        b"detect in majority mode by one that is down",
-        group::step(&mut bank, Kind::DETECT, 0, 1, 0),
+        &mut opened(3, Mode::MAJORITY),
+        &[
+            ("detect in majority mode", Kind::DETECT, [0, 1, 0]),
+            ("crash", Kind::CRASH, [0, 0, 0]),
+            ("broadcast by one that is down", Kind::BROADCAST, [0, 0, 0]),
+            ("crash of one that is down", Kind::CRASH, [0, 0, 0]),
+            (
+                "detect in majority mode by one that is down",
+                Kind::DETECT,
+                [0, 1, 0],
+            ),
+        ],
     )
 }
 
 fn copies(rt: &impl Print) -> io::Result<()> {
-    let mut bank = opened(3, Mode::ALL_ACK);
-    say::refusal(
+    say::steps(
         rt,
-        b"broadcast",
-        group::step(&mut bank, Kind::BROADCAST, 0, 95, 7),
-    )?;
-    say::refusal(
-        rt,
-        b"send of a copy not to be sent",
-        group::step(&mut bank, Kind::SEND, 1, 0, 0),
-    )?;
-    say::refusal(
-        rt,
-        b"receive of a copy not in flight",
-        group::step(&mut bank, Kind::RECEIVE, 1, 0, 0),
-    )?;
-    say::refusal(
-        rt,
-        b"lose of a copy not in flight",
-        group::step(&mut bank, Kind::LOSE, 0, 1, 0),
-    )?;
-    say::refusal(
-        rt,
-        b"deliver of a message not held",
-        group::step(&mut bank, Kind::DELIVER, 1, 0, 0),
-    )?;
-    say::refusal(
-        rt,
-        b"deliver with acknowledgements missing",
-        group::step(&mut bank, Kind::DELIVER, 0, 0, 0),
+        &mut opened(3, Mode::ALL_ACK),
+        &[
+            ("broadcast", Kind::BROADCAST, [0, 95, 7]),
+            ("send of a copy not to be sent", Kind::SEND, [1, 0, 0]),
+            ("receive of a copy not in flight", Kind::RECEIVE, [1, 0, 0]),
+            ("lose of a copy not in flight", Kind::LOSE, [0, 1, 0]),
+            ("deliver of a message not held", Kind::DELIVER, [1, 0, 0]),
+            (
+                "deliver with acknowledgements missing",
+                Kind::DELIVER,
+                [0, 0, 0],
+            ),
+        ],
     )
 }
 
 fn sender_up_and_down(rt: &impl Print) -> io::Result<()> {
     let mut bank = opened(3, Mode::ALL_ACK);
     group::step(&mut bank, Kind::BROADCAST, 0, 95, 7);
-    say::refusal(rt, b"send", group::step(&mut bank, Kind::SEND, 0, 1, 0))?;
-    say::refusal(
+    say::steps(
         rt,
-        b"the same send again",
-        group::step(&mut bank, Kind::SEND, 0, 1, 0),
-    )?;
-    say::refusal(
-        rt,
-        b"lose with both ends up",
-        group::step(&mut bank, Kind::LOSE, 0, 1, 0),
-    )?;
-    say::refusal(
-        rt,
-        b"detect of one that is up",
-        group::step(&mut bank, Kind::DETECT, 1, 0, 0),
-    )?;
-    say::refusal(
-        rt,
-        b"crash of the sender",
-        group::step(&mut bank, Kind::CRASH, 0, 0, 0),
-    )?;
-    say::refusal(
-        rt,
-        b"send by one that is down",
-        group::step(&mut bank, Kind::SEND, 0, 2, 0),
-    )?;
-    say::refusal(
-        rt,
-        b"detect of one that is down",
-        group::step(&mut bank, Kind::DETECT, 1, 0, 0),
-    )?;
-    say::refusal(
-        rt,
-        b"the same detect again",
-        group::step(&mut bank, Kind::DETECT, 1, 0, 0),
-    )?;
-    say::refusal(
-        rt,
-        b"lose with the sender down",
-        group::step(&mut bank, Kind::LOSE, 0, 1, 0),
+        &mut bank,
+        &[
+            ("send", Kind::SEND, [0, 1, 0]),
+            ("the same send again", Kind::SEND, [0, 1, 0]),
+            ("lose with both ends up", Kind::LOSE, [0, 1, 0]),
+            ("detect of one that is up", Kind::DETECT, [1, 0, 0]),
+            ("crash of the sender", Kind::CRASH, [0, 0, 0]),
+            ("send by one that is down", Kind::SEND, [0, 2, 0]),
+            ("detect of one that is down", Kind::DETECT, [1, 0, 0]),
+            ("the same detect again", Kind::DETECT, [1, 0, 0]),
+            ("lose with the sender down", Kind::LOSE, [0, 1, 0]),
+        ],
     )
 }
 
@@ -226,30 +131,16 @@ fn receiver_down(rt: &impl Print) -> io::Result<()> {
     let mut bank = opened(2, Mode::ALL_ACK);
     let sent = [1u16, 0, 95, 7, 2, 0, 1, 0, 5, 1, 0, 0];
     lists::run(&mut bank, &sent);
-    say::refusal(
+    say::steps(
         rt,
-        b"receive by one that is down",
-        group::step(&mut bank, Kind::RECEIVE, 1, 0, 0),
-    )?;
-    say::refusal(
-        rt,
-        b"deliver by one that is down",
-        group::step(&mut bank, Kind::DELIVER, 1, 0, 0),
-    )?;
-    say::refusal(
-        rt,
-        b"detect by one that is down",
-        group::step(&mut bank, Kind::DETECT, 1, 0, 0),
-    )?;
-    say::refusal(
-        rt,
-        b"lose with the receiver down",
-        group::step(&mut bank, Kind::LOSE, 0, 1, 0),
-    )?;
-    say::refusal(
-        rt,
-        b"the same loss again",
-        group::step(&mut bank, Kind::LOSE, 0, 1, 0),
+        &mut bank,
+        &[
+            ("receive by one that is down", Kind::RECEIVE, [1, 0, 0]),
+            ("deliver by one that is down", Kind::DELIVER, [1, 0, 0]),
+            ("detect by one that is down", Kind::DETECT, [1, 0, 0]),
+            ("lose with the receiver down", Kind::LOSE, [0, 1, 0]),
+            ("the same loss again", Kind::LOSE, [0, 1, 0]),
+        ],
     )
 }
 
@@ -257,66 +148,61 @@ fn deliveries(rt: &impl Print) -> io::Result<()> {
     let mut bank = opened(1, Mode::ALL_ACK);
     group::step(&mut bank, Kind::BROADCAST, 0, 0, 0);
     group::step(&mut bank, Kind::SEND, 0, 0, 0);
-    say::refusal(
+    say::steps(
         rt,
-        b"receive",
-        group::step(&mut bank, Kind::RECEIVE, 0, 0, 0),
-    )?;
-    say::refusal(
-        rt,
-        b"the same receive again",
-        group::step(&mut bank, Kind::RECEIVE, 0, 0, 0),
+        &mut bank,
+        &[
+            ("receive", Kind::RECEIVE, [0, 0, 0]),
+            ("the same receive again", Kind::RECEIVE, [0, 0, 0]),
+        ],
     )?;
     let mut spoilt = bank;
-    say::refusal(
+    say::steps(
         rt,
-        b"deliver",
-        group::step(&mut bank, Kind::DELIVER, 0, 0, 0),
-    )?;
-    say::refusal(
-        rt,
-        b"a second deliver",
-        group::step(&mut bank, Kind::DELIVER, 0, 0, 0),
+        &mut bank,
+        &[
+            ("deliver", Kind::DELIVER, [0, 0, 0]),
+            ("a second deliver", Kind::DELIVER, [0, 0, 0]),
+        ],
     )?;
     spoilt[bank::length_at(FULL, 0)] = 1;
     say::refusal(
         rt,
-        b"deliver into a full log",
+        "deliver into a full log",
         group::step(&mut spoilt, Kind::DELIVER, 0, 0, 0),
     )
 }
 
-// A bank with seven broadcasts more, and with eight.
-fn seven_more(bank: [u16; Bank::WORDS]) -> [u16; Bank::WORDS] {
-    let mut bank = bank;
-    group::step(&mut bank, Kind::BROADCAST, 0, 0, 1);
-    group::step(&mut bank, Kind::BROADCAST, 1, 95, 2);
-    group::step(&mut bank, Kind::BROADCAST, 2, 96, 3);
-    group::step(&mut bank, Kind::BROADCAST, 3, 191, 4);
-    group::step(&mut bank, Kind::BROADCAST, 13, 192, 5);
-    group::step(&mut bank, Kind::BROADCAST, 14, 65472, 6);
-    group::step(&mut bank, Kind::BROADCAST, 15, 65535, 7);
-    bank
-}
+// Of eight of 16 controllers: who, the stamp and the value.
+const READINGS: [(u16, u16, u16); 8] = [
+    (0, 0, 1),
+    (1, 95, 2),
+    (2, 96, 3),
+    (3, 191, 4),
+    (13, 192, 5),
+    (14, 65472, 6),
+    (15, 65535, 7),
+    (7, 9600, 8),
+];
 
-pub(crate) fn eight_more(bank: [u16; Bank::WORDS]) -> [u16; Bank::WORDS] {
-    let mut bank = seven_more(bank);
-    group::step(&mut bank, Kind::BROADCAST, 7, 9600, 8);
-    bank
+// Broadcasts n readings, the eight over and over.
+pub(crate) fn broadcast(bank: &mut [u16], n: usize) {
+    for &(who, stamp, value) in READINGS.iter().cycle().take(n) {
+        group::step(bank, Kind::BROADCAST, who, stamp, value);
+    }
 }
 
 // Broadcast 32 is fine, the 33rd is not.
 fn broadcasts(rt: &impl Print) -> io::Result<()> {
-    let mut bank = seven_more(eight_more(eight_more(eight_more(opened(16, Mode::ALL_ACK)))));
-    say::refusal(
+    let mut bank = opened(16, Mode::ALL_ACK);
+    broadcast(&mut bank, 31);
+    say::steps(
         rt,
-        b"broadcast 32",
-        group::step(&mut bank, Kind::BROADCAST, 15, 65535, 65535),
-    )?;
-    say::refusal(
-        rt,
-        b"broadcast 33",
-        group::step(&mut bank, Kind::BROADCAST, 0, 0, 0),
+        &mut bank,
+        &[
+            ("broadcast 32", Kind::BROADCAST, [15, 65535, 65535]),
+            ("broadcast 33", Kind::BROADCAST, [0, 0, 0]),
+        ],
     )
 }
 

@@ -1,33 +1,13 @@
 -- Bytes and words: what stands where after crossing, how long it is, and that crossing there and back changes nothing.
-use Prim.Native.Nat.{ℕ, zero, suc, ◌+◌, ◌*◌, ◌/◌, ◌%◌, ◌<◌, ◌≤◌}
+use Prim.Native.Nat.{ℕ, zero, suc, ◌+◌, ◌*◌, ◌/◌, ◌%◌, ◌^◌, ◌<◌}
 use mathlib.Core.Path.{◌≡◌, refl, ap, ap₂}
-use mathlib.Core.List.{List, [], ◌∷◌, ◌++◌, append-nil}
-use native.Mathlib.Nat.{not-suc-le-zero, le_of_suc-le-suc}
+use mathlib.Core.List.{List, [], ◌∷◌, ◌++◌}
 use native.Mathlib.Numerals.{add-one}
 use native.Mathlib.Omega.{arith}
-use lib.ListN.{length, get_or, set, take, drop, drop_of_length-le}
-use lib.Seq.{take_all}
+use lib.ListN.{length, get_or, take}
+use Rattle.std.proofs.lemmas.List.{ext_get_or}
+use Rattle.std.specs.Int.{to_le_bytes, w16}
 use Rattle.loargwen.specs.Bytes.{words_of, bytes_of}
-
--- ---- a list that is written over from the front: its first k elements are new, the rest are as they were
-
-abbrev pub over : List ℕ → List ℕ → ℕ → List ℕ
-over new old k = take k new ++ drop k old
-
-over_suc : (new old : List ℕ) (k : ℕ) → k < length new → k < length old
-    → set (over new old k) k (get_or new k 0) ≡ over new old (suc k)
-over_suc [] old k h l = absurd (not-suc-le-zero h)
-over_suc (x ∷ new) [] k h l = absurd (not-suc-le-zero l)
-over_suc (x ∷ new) (y ∷ old) zero h l = refl
-over_suc (x ∷ new) (y ∷ old) (suc k) h l =
-    ap (λ r. x ∷ r) (over_suc new old k (le_of_suc-le-suc h) (le_of_suc-le-suc l))
-
-over_more : (new old : List ℕ) (k : ℕ) → k < length new → k < length old
-    → set (over new old k) k (get_or new k 0) ≡ over new old (k + 1)
-over_more new old k h l = rw add-one (over_suc new old k h l)
-
-over_all : (new old : List ℕ) (k : ℕ) → length new ≤ k → length old ≤ k → over new old k ≡ new
-over_all new old k h l = rw (take_all k new h, drop_of_length-le old l) (append-nil new)
 
 -- ---- lengths
 
@@ -57,49 +37,24 @@ word-at (low ∷ []) k h = absurd (omega arith)
 word-at (low ∷ high ∷ bs) zero h = refl
 word-at (low ∷ high ∷ bs) (suc k) h = rw (add-one, twice_suc, ← add-one (2 * k)) (word-at bs k (omega arith))
 
-low_at : (ws : List ℕ) (k : ℕ) → get_or (bytes_of ws) (2 * k) 0 ≡ get_or ws k 0 % 256
+-- words that stand as their bytes say are the words of those bytes
+pub same_words : (ws bs : List ℕ) → length bs ≡ 2 * length ws
+    → ((k : ℕ) → k < length ws → get_or ws k 0 ≡ get_or bs (2 * k) 0 + 256 * get_or bs (2 * k + 1) 0)
+    → ws ≡ words_of bs
+same_words ws bs e each =
+    let long = length-words (length ws) bs e in
+    ext_get_or 0 ws (words_of bs) (omega arith)
+    (λ k h. let inside : 2 * k + 1 < length bs = omega arith in rw (word-at bs k inside) (each k h))
+
+-- one word more is two bytes more
+pub bytes_more : (ws : List ℕ) (k : ℕ) → k < length ws → get_or ws k 0 < 2 ^ 16
+    → bytes_of (take (k + 1) ws) ≡ bytes_of (take k ws) ++ to_le_bytes w16 (get_or ws k 0)
 unfolding bytes_of
-low_at [] k = refl
-low_at (w ∷ ws) zero = refl
-low_at (w ∷ ws) (suc k) = rw twice_suc (low_at ws k)
-
-high_at : (ws : List ℕ) (k : ℕ) → get_or (bytes_of ws) (2 * k + 1) 0 ≡ get_or ws k 0 / 256
-unfolding bytes_of
-high_at [] k = refl
-high_at (w ∷ ws) zero = refl
-high_at (w ∷ ws) (suc k) = rw (add-one, twice_suc, ← add-one (2 * k)) (high_at ws k)
-
--- ---- the turns of the two loops
-
--- one word more, as load writes it, and all of them
-pub load_more : (bs old : List ℕ) (k : ℕ) → length bs ≡ 2 * length old → k < length old
-    → set (over (words_of bs) old k) k (get_or bs (2 * k) 0 + 256 * get_or bs (2 * k + 1) 0)
-    ≡ over (words_of bs) old (k + 1)
-load_more bs old k e h =
-    let long = length-words (length old) bs e in
-    let inside : 2 * k + 1 < length bs = omega arith in
-    rw (← word-at bs k inside) (over_more (words_of bs) old k (omega arith) h)
-
-pub load_all : (bs old : List ℕ) (k : ℕ) → length bs ≡ 2 * length old → length old ≤ k
-    → over (words_of bs) old k ≡ words_of bs
-load_all bs old k e h =
-    let long = length-words (length old) bs e in over_all (words_of bs) old k (omega arith) h
-
--- two bytes more, as store writes them, and all of them
-pub store_more : (ws old : List ℕ) (k : ℕ) → length old ≡ 2 * length ws → k < length ws
-    → set (set (over (bytes_of ws) old (2 * k)) (2 * k) (get_or ws k 0 % 256)) (2 * k + 1) (get_or ws k 0 / 256)
-    ≡ over (bytes_of ws) old (2 * (k + 1))
-store_more ws old k e h =
-    let long = length-bytes ws in
-    let next : 2 * k + 1 + 1 ≡ 2 * (k + 1) = omega arith in
-    let low = over_more (bytes_of ws) old (2 * k) (omega arith) (omega arith) in
-    let high = over_more (bytes_of ws) old (2 * k + 1) (omega arith) (omega arith) in
-    rw (← low_at ws k, ← high_at ws k, low, high, next)
-
-pub store_all : (ws old : List ℕ) (k : ℕ) → length old ≡ 2 * length ws → length ws ≤ k
-    → over (bytes_of ws) old (2 * k) ≡ bytes_of ws
-store_all ws old k e h =
-    let long = length-bytes ws in over_all (bytes_of ws) old (2 * k) (omega arith) (omega arith)
+bytes_more [] k h fits = absurd (omega arith)
+bytes_more (w ∷ ws) zero h fits =
+    let high : w / 256 ≡ w / 256 % 256 = omega arith in ap (λ b. w % 256 ∷ b ∷ []) high
+bytes_more (w ∷ ws) (suc k) h fits =
+    rw add-one (ap (λ bs. w % 256 ∷ w / 256 ∷ bs) (rw add-one at (bytes_more ws k (omega arith) fits)))
 
 -- ---- there and back
 

@@ -4,15 +4,22 @@ use mathlib.Core.Path.{◌≡◌, refl, sym, ap, ◌∙◌}
 use mathlib.Core.Bool.{Bool, true, false, cond}
 use mathlib.Core.List.{List}
 use native.Mathlib.Omega.{arith}
+use borrow.Author.Tests.{eq-eqb, ne_eqb}
 use Rattle.bank.specs.Layout.{paper}
 use Rattle.bank.specs.Opening.{Answer, answer, open_of}
+use Rattle.bank.proofs.Rules.{pass, stop}
 use Rattle.refusals.specs.Step.{Asked}
 use Rattle.group.specs.Promises.{step_of}
 use Rattle.settler.specs.Settling.{settle_of}
 use Rattle.loargwen.specs.Bytes.{words_of, bytes_of}
 use Rattle.loargwen.specs.Face.{is_bank, bytes_after, on_bytes, OpenBytes, StepBytes, SettledBytes, SettleBytes}
 use Rattle.loargwen.proofs.Crossing.{words_back}
-use Rattle.loargwen.proofs.Answers.{kept, written}
+
+kept : (bytes b : List ℕ) {r : ℕ} → (r ≡ 0 → ⊥) → bytes_after bytes r b ≡ bytes
+kept bytes b h = stop (bytes_of b) (ne_eqb _ _ h) refl
+
+written : (bytes b : List ℕ) {r : ℕ} → r ≡ 0 → bytes_after bytes r b ≡ bytes_of b
+written bytes b e = pass bytes (eq-eqb _ _ e) refl
 
 -- the number r and the bytes afterwards, where the crate below answers d and leaves the bank b
 pub record Left (bytes new : List ℕ) (r d : ℕ) (b : List ℕ) : Type 0 where

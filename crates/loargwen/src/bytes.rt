@@ -1,37 +1,36 @@
 // A bank of bytes and a bank of words, each made from the other. Words cross as two bytes, the low one first.
-ghost use Rattle.std.specs.Prelude.{◌≡◌, ◌+◌, ◌*◌, length};
+ghost use Rattle.std.specs.Prelude.{◌≡◌, ◌*◌, length, cond, Some, None};
 ghost use Rattle.loargwen.specs.Bytes.{words_of, bytes_of};
-ghost use Rattle.loargwen.specs.Face.{bytes_after};
+ghost use Rattle.loargwen.specs.Face.{bytes_after, is_bank};
 
+use bank::Bank;
 use numbers::Refusal;
+use std::array;
 
-fn word(low: u8, high: u8) -> u16
-    ensures { result ≡ low + 256 * high }
+// The words of a bank's bytes; of another length no words.
+pub(crate) fn load(bytes: &[u8]) -> Option<[u16; Bank::WORDS]>
+    ensures { result ≡ cond (is_bank bytes.now) (Some (words_of bytes.now)) None }
 {
-    low as u16 + 256 * (high as u16)
+    if bytes.len() != 2 * Bank::WORDS {
+        return None;
+    }
+    Some(words(bytes))
 }
 
-pub(crate) fn load(bytes: &[u8], words: &mut [u16])
-    requires { length bytes.now ≡ 2 * length words.old }
-    ensures { words.new ≡ words_of bytes.now }
+// Of any number of words: a proof about exactly 2,244 would write each of them out.
+fn words<const N: usize>(bytes: &[u8]) -> [u16; N]
+    requires { length bytes.now ≡ 2 * N }
+    ensures { result ≡ words_of bytes.now }
 {
-    let mut k = 0;
-    while k < words.len() {
-        words[k] = word(bytes[2 * k], bytes[2 * k + 1]);
-        k += 1;
-    }
+    array::from_fn(|k| u16::from_le_bytes([bytes[2 * k], bytes[2 * k + 1]]))
 }
 
 fn store(words: &[u16], bytes: &mut [u8])
     requires { length bytes.old ≡ 2 * length words.now }
     ensures { bytes.new ≡ bytes_of words.now }
 {
-    let mut k = 0;
-    while k < words.len() {
-        let w = words[k];
-        bytes[2 * k] = (w % 256) as u8;
-        bytes[2 * k + 1] = (w / 256) as u8;
-        k += 1;
+    for (k, word) in words.iter().enumerate() {
+        bytes[2 * k..2 * k + 2].copy_from_slice(&word.to_le_bytes());
     }
 }
 

@@ -5,22 +5,10 @@
 
 mod bytes;
 
-ghost use Rattle.std.specs.Prelude.{◌≡◌, ◌*◌};
-ghost use Rattle.bank.specs.Layout.{paper, size};
 ghost use Rattle.refusals.specs.Step.{ask};
-ghost use Rattle.loargwen.specs.Face;
 ghost use Rattle.loargwen.specs.Face.{OpenBytes, StepBytes, SettleBytes, TallyBytes};
 
-use bank::Bank;
 use numbers::Refusal;
-
-// How many bytes a bank has.
-const BYTES: usize = 4488;
-
-// The constant is the layout's own number.
-fn tied()
-    ensures { BYTES ≡ 2 * size paper }
-{}
 
 // The refusal, the steps taken, and 1 where no step is left.
 #[repr(C)]
@@ -43,11 +31,9 @@ pub struct Day {
 pub fn loargwen_open(bank: &mut [u8], n: u16, mode: u16) -> u16
     ensures { OpenBytes bank.old n mode result bank.new }
 {
-    if bank.len() != BYTES {
+    let Some(mut words) = bytes::load(bank) else {
         return Refusal::UNFIT;
-    }
-    let mut words = [0u16; Bank::WORDS];
-    bytes::load(bank, &mut words);
+    };
     let r = bank::open(&mut words, n, mode);
     bytes::write_back(r, &words, bank);
     r
@@ -56,11 +42,9 @@ pub fn loargwen_open(bank: &mut [u8], n: u16, mode: u16) -> u16
 pub fn loargwen_step(bank: &mut [u8], kind: u16, a: u16, b: u16, c: u16) -> u16
     ensures { StepBytes bank.old (ask kind a b c) result bank.new }
 {
-    if bank.len() != BYTES {
+    let Some(mut words) = bytes::load(bank) else {
         return Refusal::UNFIT;
-    }
-    let mut words = [0u16; Bank::WORDS];
-    bytes::load(bank, &mut words);
+    };
     let r = group::step(&mut words, kind, a, b, c);
     bytes::write_back(r, &words, bank);
     r
@@ -69,42 +53,32 @@ pub fn loargwen_step(bank: &mut [u8], kind: u16, a: u16, b: u16, c: u16) -> u16
 pub fn loargwen_settle(bank: &mut [u8], budget: u16) -> Settled
     ensures { SettleBytes bank.old budget result.refusal result.steps result.quiet bank.new }
 {
-    if bank.len() != BYTES {
+    let Some(mut words) = bytes::load(bank) else {
         return Settled {
             refusal: Refusal::UNFIT,
             steps: 0,
             quiet: 0,
         };
-    }
-    let mut words = [0u16; Bank::WORDS];
-    bytes::load(bank, &mut words);
+    };
     let s = settler::settle(&mut words, budget);
     bytes::write_back(s.refusal, &words, bank);
     Settled {
         refusal: s.refusal,
         steps: s.steps,
-        quiet: flag(s.quiet),
+        quiet: u16::from(s.quiet),
     }
-}
-
-fn flag(t: bool) -> u16
-    ensures { result ≡ Face.flag t }
-{
-    if t { 1 } else { 0 }
 }
 
 pub fn loargwen_tally(bank: &[u8], who: u16, on: u16) -> Day
     ensures { TallyBytes bank.now who on result.refusal result.count result.sum }
 {
-    if bank.len() != BYTES {
+    let Some(words) = bytes::load(bank) else {
         return Day {
             refusal: Refusal::UNFIT,
             count: 0,
             sum: 0,
         };
-    }
-    let mut words = [0u16; Bank::WORDS];
-    bytes::load(bank, &mut words);
+    };
     let t = day::tally_day(&words, who, on);
     Day {
         refusal: t.refusal,
