@@ -1,5 +1,6 @@
 -- Questions about a log: how long it is, and its used part.
-use Rattle.std.specs.Prelude.{ℕ, ◌≡◌, cond, List, [], ◌∷◌, eqb, take, drop}
+use Rattle.std.specs.Prelude.{ℕ, ◌≡◌, cond, List, [], ◌∷◌, eqb, take, drop, Result, Ok, Err}
+use Rattle.numbers.specs.declared.Refusal.{Refusal}
 use Rattle.bank.specs.Place.{log_length, log}
 use Rattle.bank.specs.Layout.{Layout, address, words}
 use Rattle.bank.specs.Fit.{fit}
@@ -15,6 +16,11 @@ used_length L b who = cond (eqb (log_refusal L b who) 0) (words L b (log_length 
 -- the used part: empty where the question is refused
 abbrev pub log_of : Layout → List ℕ → ℕ → List ℕ
 log_of L b who = take (used_length L b who) (drop (address L (log who 0)) b)
+
+-- the length that is answered: 0 where the question is refused
+abbrev pub answered : Result ℕ Refusal → ℕ
+answered (Ok n) = n
+answered (Err r) = 0
 
 abbrev pub LengthPromise : Layout → List ℕ → ℕ → ℕ → ℕ → Type 0
 LengthPromise L b who r n = (r ≡ log_refusal L b who) × (n ≡ used_length L b who)

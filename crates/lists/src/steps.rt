@@ -1,53 +1,34 @@
 // A list of steps, applied in order up to the first refusal. Reads the list, writes the bank through single steps
 // alone.
-ghost use Rattle.bank.specs.Layout.{paper, layout};
+ghost use Rattle.numbers.specs.Numbers.{given};
+ghost use Rattle.bank.specs.Layout.{layout};
 ghost use Rattle.lists.specs.Lists.{RunPromise};
 
-use bank::{FULL, Room};
-use group::step_in;
-use numbers::Refusal;
+use bank::Room;
+use numbers::{Asked, Refusal};
 
-// How many steps were accepted, and the refusal that ended the list, or 0.
-#[repr(C)]
-#[derive(Clone, Copy)]
+// How many steps were accepted, and whether the list came to its end or what refused the step after them.
+#[derive(Clone, Copy, Debug, PartialEq, Eq)]
 pub struct Ran {
     pub accepted: usize,
-    pub refusal: u16,
+    pub ended: Result<(), Refusal>,
 }
 
 // Four words a step; what was applied before a refused step stays and is counted.
 #[tactic(auto, using(crate::proofs::StepByStep::step_by_step))]
-fn run_in(bank: &mut [u16], room: Room, steps: &[u16]) -> Ran
-    ensures { RunPromise (layout room) bank.old steps.now result.accepted result.refusal
-        bank.new }
+pub fn run<R: Room>(bank: &mut [u16], steps: &[u16]) -> Ran
+    ensures { RunPromise (layout R.room) bank.old steps.now result.accepted (given result.ended) bank.new }
 {
-    if !bank::fit_in(bank, room) {
-        return Ran {
-            accepted: 0,
-            refusal: Refusal::UNFIT,
-        };
+    if !bank::fit::<R>(bank) {
+        return Ran { accepted: 0, ended: Err(Refusal::Unfit) };
     }
     let (steps, []) = steps.as_chunks::<4>() else {
-        return Ran {
-            accepted: 0,
-            refusal: Refusal::BAD_RECORD,
-        };
+        return Ran { accepted: 0, ended: Err(Refusal::BadRecord) };
     };
     for (accepted, &[kind, a, b, c]) in steps.iter().enumerate() {
-        let refusal = step_in(bank, room, kind, a, b, c);
-        if refusal != Refusal::DONE {
-            return Ran { accepted, refusal };
+        if let Err(refusal) = group::step::<R>(bank, Asked { kind, a, b, c }) {
+            return Ran { accepted, ended: Err(refusal) };
         }
     }
-    Ran {
-        accepted: steps.len(),
-        refusal: Refusal::DONE,
-    }
-}
-
-pub fn run(bank: &mut [u16], steps: &[u16]) -> Ran
-    ensures { RunPromise paper bank.old steps.now result.accepted result.refusal
-        bank.new }
-{
-    run_in(bank, FULL, steps)
+    Ran { accepted: steps.len(), ended: Ok(()) }
 }
