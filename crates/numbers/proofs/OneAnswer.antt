@@ -61,12 +61,12 @@ pub one_refusal : (r s : Refusal) → number r ≡ number s → r ≡ s
 one_refusal r s e = sym (named_number r) ∙ ap named e ∙ named_number s
 
 -- two answers that give one number are equal where both, being accepted, carry the same
-pub one_answer_by : {A : Type 0} (r s : Result A Refusal) → given r ≡ given s
+pub one_result_by : {A : Type 0} (r s : Result A Refusal) → given r ≡ given s
     → ((x y : A) → r ≡ Ok x → s ≡ Ok y → x ≡ y) → r ≡ s
-one_answer_by (Ok x) (Ok y) e f = ap Ok (f x y refl refl)
-one_answer_by (Ok x) (Err b) e f = absurd (refused_above b (sym e))
-one_answer_by (Err a) (Ok y) e f = absurd (refused_above a e)
-one_answer_by (Err a) (Err b) e f = ap Err (one_refusal a b e)
+one_result_by (Ok x) (Ok y) e f = ap Ok (f x y refl refl)
+one_result_by (Ok x) (Err b) e f = absurd (refused_above b (sym e))
+one_result_by (Err a) (Ok y) e f = absurd (refused_above a e)
+one_result_by (Err a) (Err b) e f = ap Err (one_refusal a b e)
 
-pub one_answer : (r s : Result (Unit {0}) Refusal) → given r ≡ given s → r ≡ s
-one_answer r s e = one_answer_by r s e (λ x y _ _. refl)
+pub one_result : (r s : Result (Unit {0}) Refusal) → given r ≡ given s → r ≡ s
+one_result r s e = one_result_by r s e (λ x y _ _. refl)

@@ -6,6 +6,7 @@ pub mod Bounds  -- a controller and a message that are there have a place
 pub mod Lowest  -- the lowest number that applies is given
 pub mod DeliveryTest  -- the delivery test as four laws, and what follows from them alone
 pub mod Accepted  -- a step that is not refused was asked for, in a fit bank, and is allowed
+pub mod SameSteps  -- the code's steps are the definitions'
 -- ---- the calls
 pub mod Deciding  -- why a function's answer is right, by the tests that it made
 pub mod Determined  -- what each promise allows is one answer

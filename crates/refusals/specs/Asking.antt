@@ -1,4 +1,4 @@
--- The code's steps are the definitions' steps, and four numbers ask for the same ones.
+-- The code's steps are the definitions' steps, each way, and four numbers ask for the same ones.
 use Rattle.std.specs.Prelude.{◌≡◌, Result, IfOk, MatchResult}
 use Rattle.std.proofs.Math.Option.{Option, none, some}
 use Rattle.numbers.specs.declared.Asked.{Asked}
@@ -16,6 +16,15 @@ step_of (Deliver i m) = deliver i m
 step_of (Crash who) = crash who
 step_of (Detect i j) = detect i j
 step_of (Lose from to m) = lose from to m
+
+abbrev pub taken : Step → Taken
+taken (broadcast who s v) = Broadcast who s v
+taken (send from to m) = Send from to m
+taken (receive i from m) = Receive i from m
+taken (deliver i m) = Deliver i m
+taken (crash who) = Crash who
+taken (detect i j) = Detect i j
+taken (lose from to m) = Lose from to m
 
 -- the step that is asked for, or that none is
 abbrev pub Decodes : Asked → Result Taken Refusal → Type 0
