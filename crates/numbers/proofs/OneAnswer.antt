@@ -2,12 +2,13 @@
 use mathlib.Core.Path.{◌≡◌, refl, sym, ap, ◌∙◌}
 use Prim.Native.Nat.{ℕ}
 use native.Mathlib.Omega.{arith}
-use Rattle.std.specs.Prelude.{Result, Ok, Err, cond, eqb}
+use mathlib.Core.Bool.{Bool, true, false, true≢false, false≢true}
+use Rattle.std.specs.Prelude.{Result, Ok, Err, is_ok, cond, eqb}
 use Rattle.numbers.specs.declared.Refusal.{Refusal}
 use Rattle.numbers.specs.declared.Refusal.TheVariants.{Unfit, NoStep, NoController, NoMessage, NoDetection, ActorDown}
 use Rattle.numbers.specs.declared.Refusal.TheVariants.{MessagesFull, NoCopy, NotYet, Already, BadSize, BadMode}
 use Rattle.numbers.specs.declared.Refusal.TheVariants.{BadRecord, BadDay}
-use Rattle.numbers.specs.Numbers.{number, given}
+use Rattle.numbers.specs.Numbers.{number, given, unless}
 
 -- the refusal of a number
 abbrev pub named : ℕ → Refusal
@@ -70,3 +71,21 @@ one_result_by (Err a) (Err b) e f = ap Err (one_refusal a b e)
 
 pub one_result : (r s : Result (Unit {0}) Refusal) → given r ≡ given s → r ≡ s
 one_result r s e = one_result_by r s e (λ x y _ _. refl)
+
+-- an answer is accepted where its number is 0, and only there
+pub given_ok : {A : Type 0} (r : Result A Refusal) → is_ok r ≡ true → given r ≡ 0
+given_ok (Ok x) e = refl
+given_ok (Err a) e = absurd (false≢true e)
+
+pub given_err : {A : Type 0} (r : Result A Refusal) → is_ok r ≡ false → given r ≡ 0 → ⊥
+given_err (Ok x) e = absurd (true≢false e)
+given_err (Err a) e = refused_above a
+
+pub ok_given : {A : Type 0} (r : Result A Refusal) → given r ≡ 0 → is_ok r ≡ true
+ok_given (Ok x) e = refl
+ok_given (Err a) e = absurd (refused_above a e)
+
+-- what is not refused unless a test holds passed the test
+pub unless_passed : (r : Refusal) (t : Bool) (u : Unit {0}) → unless r t ≡ Ok u → t ≡ true
+unless_passed r true u e = refl
+unless_passed r false u e = cc

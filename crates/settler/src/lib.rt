@@ -1,55 +1,34 @@
 // The settler takes the first allowed step again and again. It changes the bank through the group's single steps alone.
-// It works on both sizes of bank; `settle` is the full bank's.
+// It works on both sizes of bank.
 #![tactic(auto)]
 
 mod search;
 
-ghost use Rattle.bank.specs.Layout.{paper, layout};
-ghost use Rattle.settler.specs.Settling.{SettlePromise};
+ghost use Rattle.bank.specs.Layout.{layout};
+ghost use Rattle.settler.specs.Answer.{SettleAnswer};
 
-use bank::{FULL, Room};
+use bank::Room;
 use numbers::Refusal;
 
-// 0 or 1, the steps taken, and whether no step is left.
-#[derive(Clone, Copy)]
+// The steps taken, and whether no step is left.
+#[derive(Clone, Copy, Debug, PartialEq, Eq)]
 pub struct Settled {
-    pub refusal: u16,
     pub steps: u16,
     pub quiet: bool,
 }
 
 // Until no step is left or the budget is spent.
-fn settle_in(bank: &mut [u16], room: Room, budget: u16) -> Settled
-    ensures { SettlePromise (layout room) bank.old budget result.refusal result.steps result.quiet
-        bank.new }
+#[tactic(auto, unfolding(crate::specs::Settling::settle_of))]
+pub fn settle<R: Room>(bank: &mut [u16], budget: u16) -> Result<Settled, Refusal>
+    ensures { SettleAnswer (layout R.room) bank.old budget result bank.new }
 {
-    if !bank::fit_in(bank, room) {
-        return Settled {
-            refusal: Refusal::UNFIT,
-            steps: 0,
-            quiet: false,
-        };
-    }
+    Refusal::Unfit.unless(bank::fit::<R>(bank))?;
     for steps in 0..budget {
-        let Some(m) = search::first_step(bank, room) else {
-            return Settled {
-                refusal: Refusal::DONE,
-                steps,
-                quiet: true,
-            };
+        let Some(step) = search::first_step::<R>(bank) else {
+            return Ok(Settled { steps, quiet: true });
         };
-        group::step_in(bank, room, m.kind, m.a, m.b, m.c);
+        group::take::<R>(bank, step).unwrap();
     }
-    Settled {
-        refusal: Refusal::DONE,
-        steps: budget,
-        quiet: search::first_step(bank, room).is_none(),
-    }
-}
-
-pub fn settle(bank: &mut [u16], budget: u16) -> Settled
-    ensures { SettlePromise paper bank.old budget result.refusal result.steps result.quiet
-        bank.new }
-{
-    settle_in(bank, FULL, budget)
+    let quiet = search::first_step::<R>(bank).is_none();
+    Ok(Settled { steps: budget, quiet })
 }

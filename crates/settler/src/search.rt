@@ -4,29 +4,51 @@ ghost use Rattle.std.specs.Prelude.{◌≡◌, map, ◌<◌};
 ghost use Rattle.bank.specs.Place.{N, count, message};
 ghost use Rattle.bank.specs.Layout.{layout, words};
 ghost use Rattle.refusals.specs.Step.{detect, deliver};
+ghost use Rattle.refusals.specs.Asking.{taken};
 ghost use Rattle.settler.specs.Candidates;
 ghost use Rattle.settler.specs.Candidates.{below, pairs, of_message, first_of, free};
-ghost use Rattle.settler.specs.Moves.{next_of, CopyKind, copy_step, copy_set};
+ghost use Rattle.settler.specs.Moves.{next_of, copy_step, copy_set};
 
 use bank::{Bank, Room};
-use numbers::{Kind, Mode, Refusal};
+use numbers::Mode;
+use refusals::Step;
 
-// The four numbers that ask for a step.
-#[derive(Clone, Copy)]
-pub struct Move {
-    pub kind: u16,
-    pub a: u16,
-    pub b: u16,
-    pub c: u16,
+// The copies that wait for a controller: those that it must send, and those on their way to it.
+#[derive(Clone, Copy, Debug, PartialEq, Eq)]
+enum Copies {
+    ToSend,
+    InFlight,
+}
+
+impl Copies {
+    // The set word that decides them, of message m at controller i.
+    fn set<R: Room>(self, bank: &[u16], m: u16, i: u16) -> u16
+        ensures { result ≡ words (layout R.room) bank.now (message m (copy_set self i)) }
+    {
+        match self {
+            Copies::ToSend => bank::unsent::<R>(bank, m, i),
+            Copies::InFlight => bank::in_flight::<R>(bank, m, i),
+        }
+    }
+
+    // What controller i does with the one to, or from, controller j.
+    fn step(self, message: u16, i: u16, j: u16) -> Step
+        ensures { result ≡ taken (copy_step self message i j) }
+    {
+        match self {
+            Copies::ToSend => Step::Send { from: i, to: j, message },
+            Copies::InFlight => Step::Receive { at: i, from: j, message },
+        }
+    }
 }
 
 // The first detect: a controller that is up, and the lowest that it still takes to be up and that is down.
-fn first_detect(bank: &[u16], room: Room) -> Option<Move>
+fn first_detect<R: Room>(bank: &[u16]) -> Option<Step>
     ensures { result
-        ≡ next_of (first_of (free (layout room) bank.now)
-        (pairs (words (layout room) bank.now N) detect)) }
+        ≡ next_of (first_of (free (layout R.room) bank.now)
+        (pairs (words (layout R.room) bank.now N) detect)) }
 {
-    if bank::word(bank, Bank::MODE) != Mode::ALL_ACK {
+    if bank::word(bank, Bank::MODE) != Mode::AllAck as u16 {
         return None;
     }
     let n = bank::word(bank, Bank::N);
@@ -35,48 +57,27 @@ fn first_detect(bank: &[u16], room: Room) -> Option<Move>
         if sets::has(up, i) {
             let j = sets::lowest(sets::less(bank::view(bank, i), up), n);
             if j < n {
-                return Some(Move {
-                    kind: Kind::DETECT,
-                    a: i,
-                    b: j,
-                    c: 0,
-                });
+                return Some(Step::Detect { at: i, of: j });
             }
         }
     }
     None
 }
 
-// The set word that decides a copy of message m at controller i: to whom it must send, or from whom one is on its way.
-fn copies(bank: &[u16], room: Room, kind: u16, m: u16, i: u16) -> u16
-    ensures { result ≡ words (layout room) bank.now (message m (copy_set kind i)) }
-{
-    if kind == Kind::SEND {
-        bank::unsent(bank, room, m, i)
-    } else {
-        bank::in_flight(bank, room, m, i)
-    }
-}
-
-// The first copy of message m that is to be sent or received, by the kind, by a controller that is up.
-fn first_copy(bank: &[u16], room: Room, kind: u16, m: u16) -> Option<Move>
-    requires { (m < words (layout room) bank.now count) × CopyKind kind }
+// The first copy of message m that is to be sent or received, by a controller that is up.
+fn first_copy<R: Room>(bank: &[u16], copies: Copies, m: u16) -> Option<Step>
+    requires { m < words (layout R.room) bank.now count }
     ensures { result
-        ≡ next_of (first_of (free (layout room) bank.now)
-        (pairs (words (layout room) bank.now N) (copy_step kind m))) }
+        ≡ next_of (first_of (free (layout R.room) bank.now)
+        (pairs (words (layout R.room) bank.now N) (copy_step copies m))) }
 {
     let n = bank::word(bank, Bank::N);
     let up = bank::word(bank, Bank::UP);
     for i in 0..n {
         if sets::has(up, i) {
-            let j = sets::lowest(copies(bank, room, kind, m, i), n);
+            let j = sets::lowest(copies.set::<R>(bank, m, i), n);
             if j < n {
-                return Some(Move {
-                    kind,
-                    a: i,
-                    b: j,
-                    c: m,
-                });
+                return Some(copies.step(m, i, j));
             }
         }
     }
@@ -84,20 +85,15 @@ fn first_copy(bank: &[u16], room: Room, kind: u16, m: u16) -> Option<Move>
 }
 
 // The first delivery of message m; only those who hold it and have not delivered it are asked about.
-fn first_deliver(bank: &[u16], room: Room, m: u16) -> Option<Move>
+fn first_deliver<R: Room>(bank: &[u16], m: u16) -> Option<Step>
     ensures { result
-        ≡ next_of (first_of (free (layout room) bank.now)
-        (map (λ i. deliver i m) (below (words (layout room) bank.now N)))) }
+        ≡ next_of (first_of (free (layout R.room) bank.now)
+        (map (λ i. deliver i m) (below (words (layout R.room) bank.now N)))) }
 {
-    let waiting = sets::less(bank::held(bank, room, m), bank::delivered(bank, room, m));
+    let waiting = sets::less(bank::held::<R>(bank, m), bank::delivered::<R>(bank, m));
     for i in 0..bank::word(bank, Bank::N) {
-        if sets::has(waiting, i) && refusals::delivery_refusal(bank, room, i, m) == Refusal::DONE {
-            return Some(Move {
-                kind: Kind::DELIVER,
-                a: i,
-                b: m,
-                c: 0,
-            });
+        if sets::has(waiting, i) && refusals::delivery_refusal::<R>(bank, i, m).is_ok() {
+            return Some(Step::Deliver { at: i, message: m });
         }
     }
     None
@@ -105,26 +101,26 @@ fn first_deliver(bank: &[u16], room: Room, m: u16) -> Option<Move>
 
 // Of one message: its sends, then its receipts, then its deliveries.
 #[tactic(auto, using(crate::proofs::Taking::next_joined))]
-fn first_of_message(bank: &[u16], room: Room, m: u16) -> Option<Move>
-    requires { m < words (layout room) bank.now count }
+fn first_of_message<R: Room>(bank: &[u16], m: u16) -> Option<Step>
+    requires { m < words (layout R.room) bank.now count }
     ensures { result
-        ≡ next_of (first_of (free (layout room) bank.now)
-        (of_message (words (layout room) bank.now N) m)) }
+        ≡ next_of (first_of (free (layout R.room) bank.now)
+        (of_message (words (layout R.room) bank.now N) m)) }
 {
-    first_copy(bank, room, Kind::SEND, m)
-        .or_else(|| first_copy(bank, room, Kind::RECEIVE, m))
-        .or_else(|| first_deliver(bank, room, m))
+    first_copy::<R>(bank, Copies::ToSend, m)
+        .or_else(|| first_copy::<R>(bank, Copies::InFlight, m))
+        .or_else(|| first_deliver::<R>(bank, m))
 }
 
 // Detects first, then the messages in turn.
-pub(crate) fn first_step(bank: &[u16], room: Room) -> Option<Move>
-    ensures { result ≡ next_of (Candidates.next (layout room) bank.now) }
+pub(crate) fn first_step<R: Room>(bank: &[u16]) -> Option<Step>
+    ensures { result ≡ next_of (Candidates.next (layout R.room) bank.now) }
 {
-    if let Some(step) = first_detect(bank, room) {
+    if let Some(step) = first_detect::<R>(bank) {
         return Some(step);
     }
     for m in 0..bank::word(bank, Bank::COUNT) {
-        if let Some(step) = first_of_message(bank, room, m) {
+        if let Some(step) = first_of_message::<R>(bank, m) {
             return Some(step);
         }
     }

@@ -8,8 +8,8 @@ use Rattle.settler.proofs.First.{pairs_from}
 use Rattle.settler.proofs.search.first_copy.Given as goal
 
 abbrev pub invariant-loop-i : goal.invariant-loop-i
-invariant-loop-i l =
-    let p = free (layout l.room) l.bank in
-    let n = words (layout l.room) l.bank N in
-    let s = copy_step l.kind l.m in
+invariant-loop-i g l =
+    let p = free (layout g.R.Room.room) l.bank in
+    let n = words (layout g.R.Room.room) l.bank N in
+    let s = copy_step l.copies l.m in
     first_of p (pairs n s) ≡ pairs_from p s n l.i

@@ -9,7 +9,7 @@ use Rattle.settler.proofs.First.{rest}
 use Rattle.settler.proofs.search.first_deliver.Given as goal
 
 abbrev pub invariant-loop-i : goal.invariant-loop-i
-invariant-loop-i l =
-    let p = free (layout l.room) l.bank in
-    let n = words (layout l.room) l.bank N in
+invariant-loop-i g l =
+    let p = free (layout g.R.Room.room) l.bank in
+    let n = words (layout g.R.Room.room) l.bank N in
     first_of p (map (λ i. deliver i l.m) (below n)) ≡ rest p (λ i. deliver i l.m ∷ []) n l.i

@@ -13,23 +13,23 @@ use Rattle.settler.proofs.Free.{detect_decided, no_detect}
 use Rattle.settler.proofs.search.first_detect.Goals as goal
 use Rattle.settler.proofs.search.first_detect.Goals.{then-has+else-j-n, else-has}
 
-pub returns-then-word-ne-ALL_ACK : goal.returns-then-word-ne-ALL_ACK
-returns-then-word-ne-ALL_ACK c =
-    let L = layout c.args.room in
+pub returns-then-word : goal.returns-then-word
+returns-then-word g c =
+    let L = layout g.R.Room.room in
     let b = c.args.bank.now in
-    let other = rw c.word.ensures at c.if-word-ne-ALL_ACK.true in
+    let other = rw c.word.ensures at c.if-word.true in
     ap next_of (sym (pairs-none (free L b) detect _ (λ i j l k. no_detect L b i l j k other)))
 
 pub loop-i-init : goal.loop-i-init
-loop-i-init c = pairs_begin _ _ _
+loop-i-init g c = pairs_begin _ _ _
 
 pub returns-then-j-n : goal.returns-then-j-n
-returns-then-j-n c =
-    let L = layout c.args.room in
+returns-then-j-n g c =
+    let L = layout g.R.Room.room in
     let i = c.loop-i.i in
     let there = rw c.word-n.ensures at c.loop-i-test.true in
     let row =
-    detect_decided L c.args.bank.now i there (sym c.word.ensures ∙ c.if-word-ne-ALL_ACK.false)
+    detect_decided L c.args.bank.now i there (sym c.word.ensures ∙ c.if-word.false)
     (omega (arith, c.type_inv.bank (address L (view i)))) in
     let least =
     c.lowest-j.ensures ∙ ap₂ lowest (c.less.ensures ∙ ap₂ less c.view.ensures c.word-up.ensures) c.word-n.ensures in
@@ -40,12 +40,12 @@ returns-then-j-n c =
     (rw c.word-n.ensures at c.if-j-n.true)))
 
 pub loop-i-preserved : goal.loop-i-preserved
-loop-i-preserved c =
-    let L = layout c.args.room in
+loop-i-preserved g c =
+    let L = layout g.R.Room.room in
     let i = c.loop-i.i in
     let there = rw c.word-n.ensures at c.loop-i-test.true in
     let row =
-    detect_decided L c.args.bank.now i there (sym c.word.ensures ∙ c.if-word-ne-ALL_ACK.false)
+    detect_decided L c.args.bank.now i there (sym c.word.ensures ∙ c.if-word.false)
     (omega (arith, c.type_inv.bank (address L (view i)))) in
     c.loop-i.invariant
     ∙ elim c.if-has.branch [
@@ -57,5 +57,5 @@ loop-i-preserved c =
     ]
 
 pub returns : goal.returns
-returns c =
+returns g c =
     ap next_of (sym (c.loop-i.invariant ∙ pairs_end _ _ _ c.loop-i.i (rw c.word-n.ensures at c.loop-i-test.false)))

@@ -8,7 +8,7 @@ use Rattle.settler.proofs.First.{pairs_from}
 use Rattle.settler.proofs.search.first_detect.Given as goal
 
 abbrev pub invariant-loop-i : goal.invariant-loop-i
-invariant-loop-i l =
-    let p = free (layout l.room) l.bank in
-    let n = words (layout l.room) l.bank N in
+invariant-loop-i g l =
+    let p = free (layout g.R.Room.room) l.bank in
+    let n = words (layout g.R.Room.room) l.bank N in
     first_of p (pairs n detect) ≡ pairs_from p detect n l.i

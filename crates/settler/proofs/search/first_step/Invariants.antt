@@ -7,6 +7,6 @@ use Rattle.settler.proofs.First.{rest}
 use Rattle.settler.proofs.search.first_step.Given as goal
 
 abbrev pub invariant-loop-m : goal.invariant-loop-m
-invariant-loop-m l =
-    let L = layout l.room in
+invariant-loop-m g l =
+    let L = layout g.R.Room.room in
     next L l.bank ≡ rest (free L l.bank) (of_message (words L l.bank N)) (words L l.bank count) l.m
