@@ -26,7 +26,7 @@ ended_bank : (r : Result Settled Refusal) (b : List ℕ) → (ended r b).bank �
 ended_bank (Ok s) b = refl
 ended_bank (Err r) b = refl
 
-settled_of : Ending → Settled
+abbrev settled_of : Ending → Settled
 settled_of e = record { steps = e.steps; quiet = e.quiet }
 
 pub answer_determined : (L : Layout) (b : List ℕ) (budget : ℕ) {r s : Result Settled Refusal} {c d : List ℕ}
