@@ -8,12 +8,12 @@ use native.Mathlib.Numerals.{add-one}
 use lib.Dec.{eqb, leb}
 use lib.ListN.{length, drop, get_or, drop_of_length-le}
 use lib.Seq.{drop-cons}
-use borrow.Author.Tests.{ne_eqb, le-leb, lt-leb}
-use Rattle.bank.specs.Place.{Words, message, stamp, value}
+use borrow.Author.Tests.{ne_eqb, le-leb, lt-leb, lt-ltb, le-ltb}
+use Rattle.bank.specs.Place.{Words, count, message, stamp, value}
 use Rattle.bank.specs.Layout.{Layout, words}
 use Rattle.bank.specs.Fit.{fit}
 use Rattle.bank.specs.Rules.{Rule, ◌else◌, first_broken}
-use Rattle.refusals.specs.State.{is_controller, is_message}
+use Rattle.refusals.specs.State.{is_controller}
 use Rattle.lists.specs.Logs.{log_refusal, log_of}
 use Rattle.bank.proofs.Rules.{pass, stop, first_decides, rest_decides, all_hold, none_broken}
 use Rattle.day.specs.Days.{last_day}
@@ -103,17 +103,22 @@ every_day L b who day e d h =
 -- ---- one entry more
 
 module _ (day : ℕ) (w : Words) (t : Tally) (ms : List ℕ) (k : ℕ) where
-  pub from_given : {u : Tally} → k < length ms → is_message w (get_or ms k 0) ≡ true
-      → u ≡ add_entry day t (w (message (get_or ms k 0) stamp)) (w (message (get_or ms k 0) value))
-      → tally_from day w t (drop k ms) ≡ tally_from day w u (drop (k + 1) ms)
-  unfolding all_given add_all
-  from_given h e q = rw (add-one k, drop-cons ms k 0 h, e, q)
+  abbrev entry : ℕ
+  entry = get_or ms k 0
 
-  pub from_stranger : k < length ms → is_message w (get_or ms k 0) ≡ false
-      → tally_from day w t (drop k ms) ≡ day_answer 1 empty
+  pub from_given : k < length ms → entry < w count
+      → tally_from day w t (drop k ms)
+      ≡ tally_from day w (add_entry day t (w (message entry stamp)) (w (message entry value))) (drop (k + 1) ms)
+  unfolding all_given add_all
+  from_given h g = let e = lt-ltb entry (w count) g in rw (add-one k, drop-cons ms k 0 h, e)
+
+  pub from_stranger : k < length ms → w count ≤ entry → tally_from day w t (drop k ms) ≡ day_answer 1 empty
   unfolding all_given
-  from_stranger h e = rw (drop-cons ms k 0, e)
+  from_stranger h g = let e = le-ltb entry (w count) g in rw (drop-cons ms k 0, e)
 
   pub from_end : length ms ≤ k → tally_from day w t (drop k ms) ≡ day_answer 0 t
   unfolding all_given add_all
   from_end h = rw (drop_of_length-le ms h)
+
+-- what tally_in goes by
+pub ruleset by_entry = (tally_unasked, tally_late, tally-asked, from_given, from_stranger, from_end)

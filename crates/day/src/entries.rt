@@ -1,9 +1,9 @@
 // A tally by value: it begins empty and takes one log entry at a time. Reads no bank.
-ghost use Rattle.std.specs.Prelude.{◌≡◌, ◌+◌, min};
+ghost use Rattle.std.specs.Prelude.{◌≡◌};
 ghost use Rattle.day.specs.Tallies.{add_entry, empty};
 
 // How many entries of a log are a day's, and the sum of their values.
-#[derive(Clone, Copy)]
+#[derive(Clone, Copy, Debug, Default, PartialEq, Eq)]
 pub struct Tally {
     pub count: u16,
     pub sum: u32,
@@ -16,10 +16,11 @@ impl Tally {
     pub fn fresh() -> Tally
         ensures { result ≡ empty }
     {
-        Tally { count: 0, sum: 0 }
+        Tally::default()
     }
 
     // One log entry more.
+    #[tactic(auto, unfolding(crate::specs::Days::day_of))]
     pub fn add_entry(self, day: u16, stamp: u16, value: u16) -> Tally
         ensures { result ≡ add_entry day self stamp value }
     {
@@ -27,25 +28,8 @@ impl Tally {
             return self;
         }
         Tally {
-            count: one_more(self.count),
-            sum: sum_with(self.sum, value),
+            count: self.count.saturating_add(1),
+            sum: self.sum.saturating_add(u32::from(value)),
         }
-    }
-}
-
-fn one_more(count: u16) -> u16
-    ensures { result ≡ min (count + 1) 65535 }
-{
-    if count < 65535 { count + 1 } else { 65535 }
-}
-
-fn sum_with(sum: u32, value: u16) -> u32
-    ensures { result ≡ min (sum + value) 4294967295 }
-{
-    let v = value as u32;
-    if sum <= 4294967295 - v {
-        sum + v
-    } else {
-        4294967295
     }
 }

@@ -32,6 +32,7 @@ fn refused(number: u16) -> DayAnswer
 }
 
 // The count and the sum of a controller's log on a day.
+#[tactic(auto, using(crate::proofs::Asking::by_entry))]
 fn tally_in(bank: &[u16], room: Room, who: u16, day: u16) -> DayAnswer
     ensures { TallyPromise (layout room) bank.now who day result.refusal result.count result.sum }
 {
@@ -45,14 +46,11 @@ fn tally_in(bank: &[u16], room: Room, who: u16, day: u16) -> DayAnswer
     let log = lists::log_in(bank, room, who);
     let count = bank::word(bank, Bank::COUNT);
     let mut t = Tally::fresh();
-    let mut k = 0;
-    while k < log.len() {
-        let m = log[k];
+    for &m in log {
         if m >= count {
             return refused(Refusal::UNFIT);
         }
         t = t.add_entry(day, bank::stamp(bank, room, m), bank::value(bank, room, m));
-        k += 1;
     }
     DayAnswer {
         refusal: Refusal::DONE,
