@@ -8,7 +8,8 @@ ghost use Rattle.std.specs.Io.KnownBytes.{Consumes, IsAtEnd};
 use std::io;
 use std::io::{Print, Read};
 
-// Reads until the buffer is full or the input ends; answers how many bytes it read, which begin the buffer.
+// Reads until the buffer is full or the input ends; answers how many bytes it read, which begin the buffer. Of std's,
+// read_to_end reads into a Vec on the heap, and read_exact says nothing of what it read where the input ends before.
 fn read_full<R: Read>(input: &mut R, buf: &mut [u8]) -> io::Result<usize>
     ensures in_bounds { ReadsAtMost result buf.new }
     ensures bytes { IfOk result (λ n. Consumes (R.remaining input.old) (R.remaining input.new) (take n buf.new)) }
@@ -16,11 +17,10 @@ fn read_full<R: Read>(input: &mut R, buf: &mut [u8]) -> io::Result<usize>
 {
     let mut n = 0;
     while n < buf.len() {
-        let more = input.read(&mut buf[n..])?;
-        if more == 0 {
-            break;
+        match input.read(&mut buf[n..])? {
+            0 => break,
+            more => n += more,
         }
-        n += more;
     }
     Ok(n)
 }

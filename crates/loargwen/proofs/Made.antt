@@ -14,7 +14,8 @@ module _ {F B : Type 0} {g : Mut F (ℕ × Unit {0}) B} {f : F} (P : ℕ → B �
       elim (cases_eq k i) [
         | inl same ↦ subst (λ j. P j (get_or ys j e)) (sym same) (subst (P i) (sym (made.2.1 e)) first.1)
         | inr other ↦
-            from ys (i + 1) n (subst (λ q. IsFromFnResultFrom g q ys (i + 1) n) first.0 made.4) k (omega arith) (omega arith) e
+            let rest = subst (λ q. IsFromFnResultFrom g q ys (i + 1) n) first.0 made.4 in
+            from ys (i + 1) n rest k (omega arith) (omega arith) e
       ]
 
   pub made_at : {ys : List B} {n : ℕ} → IsFromFnResult g f ys n → (k : ℕ) → k < n → (e : B) → P k (get_or ys k e)
