@@ -12,7 +12,7 @@ use Rattle.settler.specs.Candidates.{candidates, next}
 use Rattle.settler.specs.Settling.{settle_from, settle_of}
 use Rattle.file.specs.Records.{record_length, find_at, begun}
 use Rattle.report.specs.Text.{decimal_in}
-use Rattle.report.specs.Lines.{entries, lines, bank_lines}
+use Rattle.report.specs.Lines.{bank_lines}
 use Rattle.report.specs.Bench.{applied, play_from, bench_of}
 
 abbrev pub worked_example : List ℕ
@@ -33,6 +33,6 @@ six_lines =
 
 pub worked-example : bench_of worked_example ≡ six_lines
 unfolding has with without all_below cut with_all every within how_many count_below fields opened open_of enough
-    refusal_of step_of candidates next settle_from settle_of record_length find_at begun decimal_in entries lines
+    refusal_of step_of candidates next settle_from settle_of record_length find_at begun decimal_in
     bank_lines applied play_from bench_of
 worked-example = refl

@@ -62,7 +62,7 @@ say_end = 101 ∷ 110 ∷ 100 ∷ 32 ∷ []
 -- ---- parts of lines
 
 -- a log's numbers, each after one blank
-unfoldable pub entries : List ℕ → List ℕ
+abbrev pub entries : List ℕ → List ℕ
 entries [] = []
 entries (m ∷ ms) = blank ++ (decimal m ++ entries ms)
 
@@ -70,7 +70,7 @@ abbrev pub up_or_down : Bool → List ℕ
 up_or_down t = cond t say_up_log say_down_log
 
 -- a line for each number, one after another
-unfoldable pub lines : (ℕ → List ℕ) → List ℕ → List ℕ
+abbrev pub lines : (ℕ → List ℕ) → List ℕ → List ℕ
 lines f [] = []
 lines f (i ∷ is) = f i ++ lines f is
 

@@ -1,6 +1,8 @@
 -- Numbers as the bench prints them, in ASCII bytes, and what printing does to a lent buffer.
-use Rattle.std.specs.Prelude.{ℕ, zero, suc, ◌+◌, ◌/◌, ◌%◌, ◌≤◌, ◌≡◌, cond, List, [], ◌∷◌, ◌++◌, ltb, length}
-use Rattle.std.proofs.lemmas.List.Edits.{sets}
+use Rattle.std.specs.Prelude.{ℕ, zero, suc, ◌+◌, ◌-◌, ◌/◌, ◌%◌, ◌^◌, ◌≡◌, cond, List, [], ◌∷◌, ◌++◌, ltb, min}
+use Rattle.std.specs.List.{fold}
+use lib.ListN.{set}
+use Rattle.report.specs.declared.text.Printer.{Printer}
 
 -- a number in decimal, without leading zeros; d digits at the most are looked at, and ten are enough for any u32
 unfoldable pub decimal_in : ℕ → ℕ → List ℕ
@@ -17,13 +19,19 @@ hex_digit x = cond (ltb x 10) (48 + x) (55 + x)
 abbrev pub hex : ℕ → List ℕ
 hex w = hex_digit (w / 4096 % 16) ∷ hex_digit (w / 256 % 16) ∷ hex_digit (w / 16 % 16) ∷ hex_digit (w % 16) ∷ []
 
--- a text of at most so many bytes from a place on ends within 65,536 bytes
-abbrev pub Reach : ℕ → ℕ → Type 0
-Reach most at = at + most ≤ 65536
+-- a lent buffer, and the place in it at which printing goes on
+pub record Page : Type 0 where
+  pub bytes : List ℕ
+  pub place : ℕ
 
--- a text of at most so many bytes stands in a buffer from a place on, as far as the buffer reaches (past its end
--- nothing is stored); the place after the text is answered
-pub record Prints (most : ℕ) (out : List ℕ) (at : ℕ) (text : List ℕ) (r : ℕ) (out' : List ℕ) : Type 0 where
-  pub ends : r ≡ at + length text
-  pub leaves : out' ≡ sets out at text
-  pub within : r ≤ at + most
+-- a byte is stored at the place, as far as the buffer reaches; the place goes on by one, up to the greatest usize
+abbrev pub put : Page → ℕ → Page
+put p b = record { bytes = set p.bytes p.place b; place = min (p.place + 1) (2 ^ 64 - 1) }
+
+abbrev pub page : Printer → Page
+page p = record { bytes = p.out.now; place = p.place }
+
+-- a text is printed byte by byte, into the same buffer
+pub record Prints (p : Printer) (text : List ℕ) (q : Printer) : Type 0 where
+  pub same : q.out.ghost_name ≡ p.out.ghost_name
+  pub leaves : page q ≡ fold put (page p) text

@@ -15,6 +15,7 @@ pub(crate) struct Played {
 }
 
 // One record after so many steps: a settle, or a step of the four numbers.
+#[tactic(auto, unfolding(crate::specs::Bench::applied))]
 fn apply(bank: &mut [u16], steps: u32, r: Record) -> Played
     requires { steps + 65535 < 2 ^ 32 }
     ensures bank_after { state result.steps result.refusal bank.new
@@ -24,7 +25,7 @@ fn apply(bank: &mut [u16], steps: u32, r: Record) -> Played
     if r.kind == file::SETTLE {
         let s = settler::settle(bank, r.a);
         return Played {
-            steps: steps + s.steps as u32,
+            steps: steps + u32::from(s.steps),
             refusal: s.refusal,
         };
     }

@@ -1,81 +1,86 @@
-// Bytes and numbers, printed into a lent buffer from a place on as far as the buffer reaches. Each function answers the
-// place after what it printed, also where that lies past the buffer's end.
-ghost use Rattle.std.specs.Prelude.{◌≡◌, [], ◌∷◌, ◌++◌, ◌+◌, ◌<◌, length};
+// Bytes and numbers, printed into a lent buffer as far as the buffer reaches.
+ghost use Rattle.std.specs.Prelude.{◌≡◌, [], ◌∷◌, ◌++◌, ◌<◌};
 ghost use Rattle.report.specs.Text;
-ghost use Rattle.report.specs.Text.{Reach, Prints, hex_digit};
+ghost use Rattle.report.specs.Text.{Prints, hex_digit, page, Page};
 
-// One byte.
-pub(crate) fn put(out: &mut [u8], at: usize, b: u8) -> usize
-    requires { Reach 1 at }
-    ensures { Prints 1 out.old at (b ∷ []) result out.new }
-{
-    let next = at + 1;
-    if at < out.len() {
-        out[at] = b;
-    }
-    next
+// The buffer, and the place to print at, also where that lies past the buffer's end.
+// No `impl fmt::Write`: `write!` says what was written at `Ok` alone, and nowhere that it answers `Ok`.
+#[derive(Drop)]
+pub(crate) struct Printer<'a> {
+    out: &'a mut [u8],
+    pub(crate) place: usize,
 }
 
-// All bytes of a text.
-pub(crate) fn put_all(out: &mut [u8], at: usize, text: &[u8]) -> usize
-    requires { Reach (length text.now) at }
-    ensures { Prints (length text.now) out.old at text.now result
-        out.new }
-{
-    let mut i = 0;
-    while i < text.len() {
-        put(out, at + i, text[i]);
-        i += 1;
+impl<'a> Printer<'a> {
+    pub(crate) fn new(out: &'a mut [u8]) -> Printer<'a>
+        ensures same { result.out.ghost_name ≡ out.entry.ghost_name }
+        ensures start { page result ≡ record { bytes = out.old; place = 0 } }
+    {
+        Printer { out, place: 0 }
     }
-    at + i
-}
 
-// A number in decimal, without leading zeros.
-pub(crate) fn decimal(out: &mut [u8], at: usize, x: u32) -> usize
-    requires { Reach 10 at }
-    ensures { Prints 10 out.old at (Text.decimal x) result out.new }
-{
-    if x < 10 {
-        return put(out, at, 48 + x as u8);
+    // One byte.
+    pub(crate) fn put(&mut self, b: u8)
+        ensures { Prints self.old (b ∷ []) self.new }
+    {
+        if self.place < self.out.len() {
+            self.out[self.place] = b;
+        }
+        self.place = self.place.saturating_add(1);
     }
-    let last = decimal(out, at, x / 10);
-    put(out, last, 48 + (x % 10) as u8)
+
+    // All bytes of a text.
+    pub(crate) fn put_all(&mut self, text: &[u8])
+        ensures { Prints self.old text.now self.new }
+    {
+        for b in text {
+            self.put(*b);
+        }
+    }
+
+    // A number in decimal, without leading zeros.
+    #[tactic(auto, using(crate::proofs::Decimals::std_decimal))]
+    pub(crate) fn decimal(&mut self, x: u32)
+        ensures { Prints self.old (Text.decimal x) self.new }
+    {
+        let mut digits = itoa::Buffer::new();
+        self.put_all(digits.format(x).as_bytes());
+    }
+
+    // A word in four hex digits.
+    fn hex(&mut self, w: u16)
+        ensures { Prints self.old (Text.hex w) self.new }
+    {
+        self.put(hex_digit(w / 4096 % 16));
+        self.put(hex_digit(w / 256 % 16));
+        self.put(hex_digit(w / 16 % 16));
+        self.put(hex_digit(w % 16));
+    }
+
+    // A name and a word after it, as a number.
+    pub(crate) fn number(&mut self, name: &[u8], x: u16)
+        ensures { Prints self.old (name.now ++ Text.decimal x) self.new }
+    {
+        self.put_all(name);
+        self.decimal(u32::from(x));
+    }
+
+    // A name and a word after it, as a set.
+    pub(crate) fn set(&mut self, name: &[u8], w: u16)
+        ensures { Prints self.old (name.now ++ Text.hex w) self.new }
+    {
+        self.put_all(name);
+        self.hex(w);
+    }
 }
 
 fn hex_digit(x: u16) -> u8
     requires { x < 16 }
     ensures { result ≡ hex_digit x }
 {
-    if x < 10 { 48 + x as u8 } else { 55 + x as u8 }
-}
-
-// A word in four hex digits.
-fn hex(out: &mut [u8], at: usize, w: u16) -> usize
-    requires { Reach 4 at }
-    ensures { Prints 4 out.old at (Text.hex w) result out.new }
-{
-    let second = put(out, at, hex_digit(w / 4096 % 16));
-    let third = put(out, second, hex_digit(w / 256 % 16));
-    let last = put(out, third, hex_digit(w / 16 % 16));
-    put(out, last, hex_digit(w % 16))
-}
-
-// A name and a word after it, as a number.
-pub(crate) fn number(out: &mut [u8], at: usize, name: &[u8], x: u16) -> usize
-    requires { Reach (length name.now + 10) at }
-    ensures { Prints (length name.now + 10) out.old at
-        (name.now ++ Text.decimal x) result out.new }
-{
-    let first = put_all(out, at, name);
-    decimal(out, first, x as u32)
-}
-
-// A name and a word after it, as a set.
-pub(crate) fn set(out: &mut [u8], at: usize, name: &[u8], w: u16) -> usize
-    requires { Reach (length name.now + 4) at }
-    ensures { Prints (length name.now + 4) out.old at
-        (name.now ++ Text.hex w) result out.new }
-{
-    let first = put_all(out, at, name);
-    hex(out, first, w)
+    if x < 10 {
+        b'0' + x as u8
+    } else {
+        b'A' + (x - 10) as u8
+    }
 }
