@@ -1,14 +1,14 @@
 -- A part of a list that is lent, written by itself and put back: the same as writing in the whole.
-use mathlib.Core.Path.{◌≡◌, refl, sym, ap, subst, ◌∙◌}
+use mathlib.Core.Path.{◌≡◌, refl, sym, ap, ◌∙◌}
 use mathlib.Core.List.{List, [], ◌∷◌, ◌++◌}
-use Prim.Native.Nat.{ℕ, ◌+◌, ◌-◌, ◌≤◌, ◌<◌}
+use Prim.Native.Nat.{ℕ, ◌+◌, ◌≤◌, ◌<◌}
 use native.Mathlib.Nat.{zero-add, suc-add}
 use native.Mathlib.Omega.{arith}
 use lib.ListN.{length, get_or, set, take, drop, length-set, length-drop, take-append-drop}
 use lib.Seq.{set-append_left, length-take-le, get_or-take, get_or-drop}
 use Rattle.bank.specs.Place.{Field, Record, record_of, Write}
 use Rattle.bank.specs.Layout.{Layout, size, puts, words, address, offset, record_at, record_size, in_record}
-use Rattle.bank.specs.Layout.{changed, FieldIn}
+use Rattle.bank.specs.Layout.{changed, record_words, with_record, FieldIn}
 use Rattle.bank.proofs.Places.{offset-below, record_inside}
 
 -- xs with ys in the place of its k elements from a on
@@ -63,45 +63,26 @@ puts-in_record L m b (w ∷ ws) = puts-in_record L m (set b (record_at L m + off
 
 -- ---- a record lent whole
 
--- the m-th record of a bank, lent from a up to e
-pub record Lends (L : Layout) (b : List ℕ) (m a e : ℕ) : Type 0 where
-  pub begins : a ≡ record_at L m
-  pub ends : e ≡ record_at L m + record_size L
-  pub fits : record_at L m + record_size L ≤ length b
-
-pub lends : {L : Layout} {b : List ℕ} {m a e : ℕ} → length b ≡ size L → m < L.messages → a ≡ record_at L m
-    → e ≡ record_at L m + record_size L → Lends L b m a e
-lends {L} {b} {m} whole given begins ends =
-    record { begins = begins; ends = ends; fits = rw whole (record_inside L m given) }
-
 -- a change that rests on no word but those of the layout, and stands within the record
 pub record Change (L : Layout) (change : Record → List (Write Field)) : Type 0 where
   pub rests : (g h : Record) → ((f : Field) → FieldIn L f → g f ≡ h f) → change g ≡ change h
   pub within : (r : Record) → Below (offset L) (record_size L) (change r)
 
-module _ {L : Layout} {b : List ℕ} {m a e : ℕ} (l : Lends L b m a e) where
-  -- it ends in the bank, and is as long as a record
-  pub lent_inside : e ≤ length b
-  lent_inside = omega (arith, l.ends, l.fits)
-
-  long : e - a ≡ record_size L
-  long = omega (arith, l.begins, l.ends)
-
-  part_in : a + (e - a) ≤ length b
-  part_in = omega (arith, l.begins, l.ends, l.fits)
-
-  pub lent_length : length (part a (e - a) b) ≡ record_size L
-  lent_length = part_length a (e - a) b part_in ∙ long
+module _ (L : Layout) (b : List ℕ) (m : ℕ) (whole : length b ≡ size L) (there : m < L.messages) where
+  inside : record_at L m + record_size L ≤ length b
+  inside = rw whole (record_inside L m there)
 
   -- written by itself and put back: the change is in the bank
-  pub lent_whole : (change : Record → List (Write Field)) → Change L change
-      → graft a (e - a) b (changed L change (part a (e - a) b))
-      ≡ puts (address L) b (in_record m (change (record_of (words L b) m)))
-  lent_whole change known =
+  pub lent_whole : {left b' : List ℕ} (change : Record → List (Write Field)) → Change L change
+      → b' ≡ with_record L b m left → left ≡ changed L change (record_words L b m)
+      → b' ≡ puts (address L) b (in_record m (change (record_of (words L b) m)))
+  lent_whole change known put does =
+      let a : ℕ = record_at L m in
+      let k : ℕ = record_size L in
       let new = change (record_of (words L b) m) in
-      ap (λ ws. graft a (e - a) b (puts (offset L) (part a (e - a) b) ws))
-      (known.rests _ _ (λ f h. part_word a (e - a) b part_in (offset L f) (omega (arith, long, offset-below L f h))
-      ∙ ap (λ k. get_or b (k + offset L f) 0) l.begins))
-      ∙ part_puts a (e - a) b part_in (offset L) new (subst (λ k. Below (offset L) k new) (sym long) (known.within _))
-      ∙ ap (λ k. puts (λ f. k + offset L f) b new) l.begins
+      put
+      ∙ ap (with_record L b m) does
+      ∙ ap (λ ws. with_record L b m (puts (offset L) (record_words L b m) ws))
+      (known.rests _ _ (λ f h. part_word a k b inside (offset L f) (offset-below L f h)))
+      ∙ part_puts a k b inside (offset L) new (known.within _)
       ∙ puts-in_record L m b new

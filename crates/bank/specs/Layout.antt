@@ -1,6 +1,6 @@
 -- Where each word stands. A layout is two numbers; every address follows from them as regions laid one after another.
 use Rattle.std.specs.Prelude.{ℕ, zero, suc, ◌+◌, ◌*◌, ◌<◌, ◌≡◌, Bool, true, false, List, [], ◌∷◌, ◌++◌}
-use Rattle.std.specs.Prelude.{map, get_or, set}
+use Rattle.std.specs.Prelude.{map, get_or, set, take, drop}
 use Rattle.bank.specs.Place.{Field, Place, Words, Record, Write, ◌≔◌, sender, stamp, value, held, delivered}
 use Rattle.bank.specs.Place.{acked, unsent, in_flight, N, mode, count, up, view, log_length, log, message}
 
@@ -156,3 +156,10 @@ in_record m xs = map (λ (x : Write Field). message m x.at ≔ x.word) xs
 -- a record's words with a change that rests on them as they were
 abbrev pub changed : Layout → (Record → List (Write Field)) → List ℕ → List ℕ
 changed L change r = puts (offset L) r (change (look (offset L) r))
+
+-- a record's words as they stand in the bank, and the bank with others in their place
+abbrev pub record_words : Layout → List ℕ → ℕ → List ℕ
+record_words L b m = take (record_size L) (drop (record_at L m) b)
+
+abbrev pub with_record : Layout → List ℕ → ℕ → List ℕ → List ℕ
+with_record L b m r = take (record_at L m) b ++ (r ++ drop (record_size L) (drop (record_at L m) b))

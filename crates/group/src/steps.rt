@@ -1,7 +1,8 @@
 // What each step that nothing refuses writes. Whatever it writes in a record goes to that one record, lent from the
 // middle of the bank.
-ghost use Rattle.std.specs.Prelude.{◌≡◌};
-ghost use Rattle.bank.specs.Layout.{layout};
+ghost use Rattle.std.specs.Prelude.{◌≡◌, ◌<◌, length};
+ghost use Rattle.std.specs.Fn.{FnOnceReturnsAtMut};
+ghost use Rattle.bank.specs.Layout.{layout, size, record_size, record_words, with_record};
 ghost use Rattle.refusals.specs.Step.{broadcast, send, receive, deliver, crash, detect, lose};
 ghost use Rattle.refusals.specs.Asking.{step_of};
 ghost use Rattle.refusals.specs.Promises.{Allowed};
@@ -11,15 +12,27 @@ use crate::record;
 use bank::{Bank, Room, record_at, record_end};
 use refusals::Step;
 
+// One message's record, lent from the middle of the bank to whatever changes it.
+fn in_record<R: Room, F: FnOnce(&mut [u16])>(bank: &mut [u16], m: u16, change: F)
+    requires there { (length bank.old ≡ size (layout R.room)) × (m < (layout R.room).messages) }
+    requires callable { (r : _) → length r.now ≡ record_size (layout R.room) → F.pre change r }
+    ensures { (left : _) × FnOnceReturnsAtMut F.FnOnce change (record_words (layout R.room) bank.old m) tt left
+        × (bank.new ≡ with_record (layout R.room) bank.old m left) }
+{
+    change(&mut bank[record_at::<R>(m)..record_end::<R>(m)]);
+}
+
 fn broadcast<R: Room>(bank: &mut [u16], who: u16, stamp: u16, value: u16)
     requires { Allowed (layout R.room) bank.old (broadcast who stamp value) }
     ensures { bank.new ≡ after (layout R.room) bank.old (broadcast who stamp value) }
 {
     let n = bank[Bank::N];
     let m = bank[Bank::COUNT];
-    let a = record_at::<R>(m);
-    let e = record_end::<R>(m);
-    record::write_fresh::<R>(&mut bank[a..e], n, who, stamp, value);
+    in_record::<R, _>(
+        bank,
+        m,
+        |record| record::write_fresh::<R>(record, n, who, stamp, value),
+    );
     bank[Bank::COUNT] = m + 1;
 }
 
@@ -27,9 +40,7 @@ fn send<R: Room>(bank: &mut [u16], from: u16, to: u16, m: u16)
     requires { Allowed (layout R.room) bank.old (send from to m) }
     ensures { bank.new ≡ after (layout R.room) bank.old (send from to m) }
 {
-    let a = record_at::<R>(m);
-    let e = record_end::<R>(m);
-    record::send::<R>(&mut bank[a..e], from, to);
+    in_record::<R, _>(bank, m, |record| record::send::<R>(record, from, to));
 }
 
 fn receive<R: Room>(bank: &mut [u16], i: u16, from: u16, m: u16)
@@ -37,9 +48,7 @@ fn receive<R: Room>(bank: &mut [u16], i: u16, from: u16, m: u16)
     ensures { bank.new ≡ after (layout R.room) bank.old (receive i from m) }
 {
     let n = bank[Bank::N];
-    let a = record_at::<R>(m);
-    let e = record_end::<R>(m);
-    record::receive::<R>(&mut bank[a..e], n, i, from);
+    in_record::<R, _>(bank, m, |record| record::receive::<R>(record, n, i, from));
 }
 
 fn deliver<R: Room>(bank: &mut [u16], i: u16, m: u16)
@@ -49,9 +58,7 @@ fn deliver<R: Room>(bank: &mut [u16], i: u16, m: u16)
     let l = bank::length_at::<R>(i);
     let length = bank[l];
     let k = bank::log_at::<R>(i, length);
-    let a = record_at::<R>(m);
-    let e = record_end::<R>(m);
-    record::deliver::<R>(&mut bank[a..e], i);
+    in_record::<R, _>(bank, m, |record| record::deliver::<R>(record, i));
     bank[k] = m;
     bank[l] = length + 1;
 }
@@ -75,9 +82,7 @@ fn lose<R: Room>(bank: &mut [u16], from: u16, to: u16, m: u16)
     requires { Allowed (layout R.room) bank.old (lose from to m) }
     ensures { bank.new ≡ after (layout R.room) bank.old (lose from to m) }
 {
-    let a = record_at::<R>(m);
-    let e = record_end::<R>(m);
-    record::lose::<R>(&mut bank[a..e], from, to);
+    in_record::<R, _>(bank, m, |record| record::lose::<R>(record, from, to));
 }
 
 // A step, once nothing refuses it.

@@ -1,5 +1,5 @@
 -- deliver: one word, with a controller that a word has a bit for.
-use Rattle.std.proofs.Common.{ℕ, ◌<◌}
+use Rattle.std.proofs.Common.{◌<◌}
 use native.Mathlib.Omega.{arith}
 use Rattle.sets.proofs.Members.{join-with}
 use Rattle.bank.proofs.Rooms.{few}

@@ -1,5 +1,5 @@
 -- receive: all words are read before one is written, so the stores are the definition's writes.
-use Rattle.std.proofs.Common.{ℕ, ◌<◌}
+use Rattle.std.proofs.Common.{◌<◌}
 use native.Mathlib.Omega.{arith}
 use Rattle.sets.proofs.Members.{join-with}
 use Rattle.bank.proofs.Rooms.{few}

@@ -1,5 +1,5 @@
 -- send: both words are read before either is written, so the stores are the definition's writes.
-use Rattle.std.proofs.Common.{ℕ, ◌<◌}
+use Rattle.std.proofs.Common.{◌<◌}
 use native.Mathlib.Omega.{arith}
 use Rattle.sets.proofs.Members.{join-with}
 use Rattle.bank.proofs.Rooms.{few}

@@ -1,6 +1,7 @@
 -- lose: as a send, of one word.
+use Rattle.std.proofs.Common.{rules}
 use Rattle.bank.specs.Layout.{layout}
-use Rattle.bank.proofs.Lending.{lends, lent_whole}
+use Rattle.bank.proofs.Lending.{lent_whole}
 use Rattle.refusals.proofs.Granted.{lose_granted}
 use Rattle.refusals.proofs.Bounds.{ends-below}
 use Rattle.group.proofs.Changes.{lost_change}
@@ -9,6 +10,8 @@ use Rattle.group.proofs.steps.lose.Goals as goal
 pub returns : goal.returns
 returns g c =
     let L = layout g.R.Room.room in
-    let here = ends-below L c.args.bank.now c.requires.sound (lose_granted L _ c.requires.free).ends in
-    let lending = lends c.requires.sound.whole here.message c.record_at-a.ensures c.record_end-e.ensures in
-    rw c.lose.ensures (lent_whole lending _ (lost_change L c.args.from c.args.to here.second))
+    let a = c.args in
+    let here = ends-below L a.bank.now c.requires.sound (lose_granted L _ c.requires.free).ends in
+    let (left, ran, put) = c.in_record.ensures in
+    let change = lost_change L a.from a.to here.second in
+    lent_whole L a.bank.now a.m c.requires.sound.whole here.message _ change put (search rules)

@@ -1,6 +1,7 @@
--- send: the record is lent from the middle of the bank; writing there is writing in the bank.
+-- send: both controllers have their words in the record.
+use Rattle.std.proofs.Common.{rules}
 use Rattle.bank.specs.Layout.{layout}
-use Rattle.bank.proofs.Lending.{lends, lent_whole}
+use Rattle.bank.proofs.Lending.{lent_whole}
 use Rattle.refusals.proofs.Granted.{send_granted}
 use Rattle.refusals.proofs.Bounds.{ends-below}
 use Rattle.group.proofs.Changes.{sent_change}
@@ -9,6 +10,8 @@ use Rattle.group.proofs.steps.send.Goals as goal
 pub returns : goal.returns
 returns g c =
     let L = layout g.R.Room.room in
-    let here = ends-below L c.args.bank.now c.requires.sound (send_granted L _ c.requires.free).ends in
-    let lending = lends c.requires.sound.whole here.message c.record_at-a.ensures c.record_end-e.ensures in
-    rw c.send.ensures (lent_whole lending _ (sent_change L c.args.from c.args.to here.first here.second))
+    let a = c.args in
+    let here = ends-below L a.bank.now c.requires.sound (send_granted L _ c.requires.free).ends in
+    let (left, ran, put) = c.in_record.ensures in
+    let change = sent_change L a.from a.to here.first here.second in
+    lent_whole L a.bank.now a.m c.requires.sound.whole here.message _ change put (search rules)
