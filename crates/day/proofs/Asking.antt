@@ -120,5 +120,5 @@ module _ (day : ℕ) (w : Words) (t : Tally) (ms : List ℕ) (k : ℕ) where
   unfolding all_given add_all
   from_end h = rw (drop_of_length-le ms h)
 
--- what tally_in goes by
+-- what tally_day goes by
 pub ruleset by_entry = (tally_unasked, tally_late, tally-asked, from_given, from_stranger, from_end)

@@ -1,7 +1,12 @@
 -- Each promise leaves no room: two answers that it allows for the same input are equal.
 use Prim.Native.Nat.{ℕ}
-use mathlib.Core.Path.{◌≡◌, sym, ap, ◌∙◌}
+use mathlib.Core.Path.{◌≡◌, refl, sym, ap, ◌∙◌}
 use mathlib.Core.List.{List}
+use Rattle.std.specs.Prelude.{Result, Ok, Err}
+use Rattle.numbers.specs.declared.Refusal.{Refusal}
+use Rattle.numbers.specs.Numbers.{given}
+use Rattle.numbers.proofs.OneAnswer.{one_result_by}
+use Rattle.day.specs.Answer.{answered, TallyAnswer}
 use Rattle.bank.specs.Layout.{Layout}
 use Rattle.day.specs.Tallies.{TallyPromise}
 use Rattle.day.specs.declared.entries.Tally.{Tally}
@@ -14,3 +19,15 @@ tally_determined L b who day e f =
 -- a fresh tally and one with an entry more are each promised by an equation with a definition's value
 pub one-tally : {t u v : Tally} → u ≡ t → v ≡ t → u ≡ v
 one-tally e f = e ∙ sym f
+
+-- what an answer is read as tells the answer
+number_read : (r : Result Tally Refusal) → (answered r).refusal ≡ given r
+number_read (Ok t) = refl
+number_read (Err r) = refl
+
+pub answer_determined : (L : Layout) (b : List ℕ) (who day : ℕ) {r s : Result Tally Refusal}
+    → TallyAnswer L b who day r → TallyAnswer L b who day s → r ≡ s
+answer_determined L b who day {r} {s} e f =
+    let g = e ∙ sym f in
+    one_result_by r s (sym (number_read r) ∙ ap (λ a. a.refusal) g ∙ number_read s)
+    (λ t u i j. ap (λ a. a.tally) (sym (ap answered i) ∙ g ∙ ap answered j))

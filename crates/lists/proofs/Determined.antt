@@ -5,7 +5,11 @@ use mathlib.Core.List.{List}
 use Rattle.sets.proofs.Tests.{one_value}
 use Rattle.bank.specs.Layout.{Layout}
 use Rattle.lists.specs.Lists.{RunPromise}
-use Rattle.lists.specs.Logs.{LengthPromise, LogPromise}
+use Rattle.lists.specs.Logs.{answered, LengthPromise, LogPromise}
+use Rattle.std.specs.Prelude.{Result, Ok, Err}
+use Rattle.numbers.specs.declared.Refusal.{Refusal}
+use Rattle.numbers.specs.Numbers.{given}
+use Rattle.numbers.proofs.OneAnswer.{one_result_by}
 
 pub run_determined : (L : Layout) (b steps : List ℕ) {n k r s : ℕ} {c d : List ℕ} → RunPromise L b steps n r c
     → RunPromise L b steps k s d
@@ -20,3 +24,9 @@ length_determined L b who e f = (e.0 ∙ sym f.0, e.1 ∙ sym f.1)
 pub log_determined : (L : Layout) (b : List ℕ) (who : ℕ) {c d : List ℕ} → LogPromise L b who c
     → LogPromise L b who d → c ≡ d
 log_determined L b who e f = one_value e f
+
+-- the code's answer, which carries the length where nothing refuses the question
+pub length_answer_determined : (L : Layout) (b : List ℕ) (who : ℕ) {r s : Result ℕ Refusal}
+    → LengthPromise L b who (given r) (answered r) → LengthPromise L b who (given s) (answered s) → r ≡ s
+length_answer_determined L b who {r} {s} e f =
+    one_result_by r s (e.0 ∙ sym f.0) (λ n k i j. sym (ap answered i) ∙ (e.1 ∙ sym f.1) ∙ ap answered j)

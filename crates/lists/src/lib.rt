@@ -5,4 +5,4 @@ mod logs;
 mod steps;
 
 pub use logs::{log, log_length};
-pub use steps::{Ran, run};
+pub use steps::{CRan, Ran, run};

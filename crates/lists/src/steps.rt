@@ -1,5 +1,6 @@
 // A list of steps, applied in order up to the first refusal. Reads the list, writes the bank through single steps
 // alone.
+ghost use Rattle.std.specs.Prelude.{◌≡◌};
 ghost use Rattle.numbers.specs.Numbers.{given};
 ghost use Rattle.bank.specs.Layout.{layout};
 ghost use Rattle.lists.specs.Lists.{RunPromise};
@@ -12,6 +13,22 @@ use numbers::{Asked, Refusal};
 pub struct Ran {
     pub accepted: usize,
     pub ended: Result<(), Refusal>,
+}
+
+// The same for C programs: the refusal as its number, or 0.
+#[repr(C)]
+#[derive(Clone, Copy, Debug, PartialEq, Eq)]
+pub struct CRan {
+    pub accepted: usize,
+    pub refusal: u16,
+}
+
+impl From<Ran> for CRan {
+    ghost from_gives = { λ ran c. (c.accepted ≡ ran.accepted) × (c.refusal ≡ given ran.ended) };
+
+    fn from(ran: Ran) -> CRan {
+        CRan { accepted: ran.accepted, refusal: numbers::number(ran.ended) }
+    }
 }
 
 // Four words a step; what was applied before a refused step stays and is counted.

@@ -15,30 +15,29 @@ use Rattle.refusals.specs.Step.{Asked, ask}
 use Rattle.group.specs.Promises.{StepPromise}
 use Rattle.lists.specs.Lists.{outcome, run_from, run_of}
 use Rattle.lists.proofs.StepByStep.{run_begins, run_more, run_stop, run_unfit}
-use Rattle.step_records.specs.declared.Step.{Step}
 use Rattle.step_records.specs.Records.{flat}
 
 -- four words a record: no word is left over
-flat-whole : (ss : List Step) → length (flat ss) % 4 ≡ 0
+flat-whole : (ss : List Asked) → length (flat ss) % 4 ≡ 0
 unfolding flat
 flat-whole [] = refl
 flat-whole (s ∷ ss) = omega (arith, flat-whole ss)
 
 -- the numbers by which a record asks for a step
-abbrev pub asked_by : Step → Asked
+abbrev pub asked_by : Asked → Asked
 asked_by s = ask s.kind s.a s.b s.c
 
 -- the records from the i-th on, as words
-abbrev from_here : List Step → ℕ → Step → List ℕ
+abbrev from_here : List Asked → ℕ → Asked → List ℕ
 from_here ss i d = (get_or ss i d).kind ∷ (get_or ss i d).a ∷ (get_or ss i d).b ∷ (get_or ss i d).c
     ∷ flat (drop (i + 1) ss)
 
-next_record : (ss : List Step) (i : ℕ) (d : Step) → i < length ss → flat (drop i ss) ≡ from_here ss i d
+next_record : (ss : List Asked) (i : ℕ) (d : Asked) → i < length ss → flat (drop i ss) ≡ from_here ss i d
 unfolding flat
 next_record ss i d h = rw (add-one, drop-cons ss i d)
 
 -- the step of record i gave back r and left the words b': its refusal ends the list, or the next record is at hand
-module _ (L : Layout) (b : List ℕ) (ss : List Step) (i : ℕ) (d : Step) (r : ℕ) (b' : List ℕ) (h : i < length ss)
+module _ (L : Layout) (b : List ℕ) (ss : List Asked) (i : ℕ) (d : Asked) (r : ℕ) (b' : List ℕ) (h : i < length ss)
     (p : StepPromise L b (asked_by (get_or ss i d)) r b') where
   pub records_stop : (r ≡ 0 → ⊥) → run_from L i b (flat (drop i ss)) ≡ outcome i r b'
   records_stop z = rw (next_record ss i d) (run_stop L i b _ _ _ _ _ r b' p z)
@@ -47,7 +46,7 @@ module _ (L : Layout) (b : List ℕ) (ss : List Step) (i : ℕ) (d : Step) (r : 
   records_more z = rw (next_record ss i d) (run_more L i b _ _ _ _ _ r b' p z)
 
 -- where no record is left, and where none is applied yet
-module _ (L : Layout) (b : List ℕ) (ss : List Step) where
+module _ (L : Layout) (b : List ℕ) (ss : List Asked) where
   pub records_end : (i : ℕ) → length ss ≤ i → run_from L i b (flat (drop i ss)) ≡ outcome i 0 b
   unfolding flat run_from
   records_end i h = rw drop_of_length-le

@@ -12,6 +12,7 @@ use Rattle.bank.specs.Layout.{Layout, paper, words}
 use Rattle.bank.specs.Fit.{fit}
 use Rattle.bank.proofs.Rules as Rules
 use Rattle.refusals.specs.Step as Steps
+use Rattle.refusals.specs.Step.{Asked}
 use Rattle.refusals.specs.Refusals.{rules}
 use Rattle.refusals.specs.Promises.{asked_refusal, refusal_of}
 use Rattle.group.specs.Promises.{step_of}
@@ -19,16 +20,15 @@ use Rattle.lists.specs.Lists.{Outcome, outcome, run_from, run_of, RunPromise}
 use Rattle.lists.proofs.Determined.{run_determined}
 use Rattle.refusals.proofs.StepRules.{rules_numbered}
 use Rattle.lists.proofs.StepByStep.{run_unfit}
-use Rattle.step_records.specs.declared.Step.{Step}
 use Rattle.step_records.specs.Records.{flat, StepsPromise}
 use Rattle.step_records.proofs.ByRecord.{asked_by, records_begin}
 
 -- on the same steps both forms give the same number of accepted steps, the same refusal and the same bank
-pub same_as_flat : (b : List ℕ) (ss : List Step) (n k r s : ℕ) (c d : List ℕ) → StepsPromise b ss n r c
+pub same_as_flat : (b : List ℕ) (ss : List Asked) (n k r s : ℕ) (c d : List ℕ) → StepsPromise b ss n r c
     → RunPromise paper b (flat ss) k s d → (n ≡ k) × (r ≡ s) × (c ≡ d)
 same_as_flat b ss n k r s c d e f = run_determined paper b (flat ss) e f
 
-pub steps_determined : (b : List ℕ) (ss : List Step) (n k r s : ℕ) (c d : List ℕ) → StepsPromise b ss n r c
+pub steps_determined : (b : List ℕ) (ss : List Asked) (n k r s : ℕ) (c d : List ℕ) → StepsPromise b ss n r c
     → StepsPromise b ss k s d → (n ≡ k) × (r ≡ s) × (c ≡ d)
 steps_determined b ss n k r s c d e f = run_determined paper b (flat ss) e f
 
@@ -49,7 +49,7 @@ module _ (L : Layout) where
       go true none = omega arith
       go false o = omega arith
 
-  run_not_ragged : (n : ℕ) (b : List ℕ) (ss : List Step) → NotRagged (run_from L n b (flat ss)).refusal
+  run_not_ragged : (n : ℕ) (b : List ℕ) (ss : List Asked) → NotRagged (run_from L n b (flat ss)).refusal
   unfolding flat run_from
   run_not_ragged n b [] = omega arith
   run_not_ragged n b (s ∷ ss) =
@@ -59,7 +59,7 @@ module _ (L : Layout) where
       (step_not_ragged b (asked_by s))
 
 -- 13 does not arise: a record is whole, and no step is refused by that number
-pub never_ragged : (b : List ℕ) (ss : List Step) (n r : ℕ) (c : List ℕ) → StepsPromise b ss n r c → r ≡ 13 → ⊥
+pub never_ragged : (b : List ℕ) (ss : List Asked) (n r : ℕ) (c : List ℕ) → StepsPromise b ss n r c → r ≡ 13 → ⊥
 never_ragged b ss n r c e q = by_fitness (fit paper b) refl (sym (ap (λ o. o.refusal) e) ∙ q)
   where
     by_fitness : (t : Bool) → fit paper b ≡ t → NotRagged (run_of paper b (flat ss)).refusal

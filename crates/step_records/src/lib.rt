@@ -2,41 +2,25 @@
 // the same call from `step_records_c`.
 #![tactic(auto)]
 
+ghost use Rattle.numbers.specs.Numbers.{given};
 ghost use Rattle.step_records.specs.Records.{StepsPromise};
 
+use bank::Bank;
 use lists::Ran;
-use numbers::Refusal;
-
-// One step: its kind and three numbers.
-#[repr(C)]
-#[derive(Clone, Copy)]
-pub struct Step {
-    pub kind: u16,
-    pub a: u16,
-    pub b: u16,
-    pub c: u16,
-}
+use numbers::{Asked, Refusal};
 
 // Applies the steps in order up to the first refusal; what was applied before it stays and is counted.
 #[tactic(auto, using(crate::proofs::ByRecord::by_record))]
-pub fn run_steps(bank: &mut [u16], steps: &[Step]) -> Ran
-    ensures { StepsPromise bank.old steps.now result.accepted result.refusal
-        bank.new }
+pub fn run_steps(bank: &mut [u16], steps: &[Asked]) -> Ran
+    ensures { StepsPromise bank.old steps.now result.accepted (given result.ended) bank.new }
 {
-    if !bank::fit(bank) {
-        return Ran {
-            accepted: 0,
-            refusal: Refusal::UNFIT,
-        };
+    if !bank::fit::<Bank>(bank) {
+        return Ran { accepted: 0, ended: Err(Refusal::Unfit) };
     }
-    for (accepted, s) in steps.iter().enumerate() {
-        let refusal = group::step(bank, s.kind, s.a, s.b, s.c);
-        if refusal != Refusal::DONE {
-            return Ran { accepted, refusal };
+    for (accepted, &asked) in steps.iter().enumerate() {
+        if let Err(refusal) = group::step::<Bank>(bank, asked) {
+            return Ran { accepted, ended: Err(refusal) };
         }
     }
-    Ran {
-        accepted: steps.len(),
-        refusal: Refusal::DONE,
-    }
+    Ran { accepted: steps.len(), ended: Ok(()) }
 }

@@ -1,0 +1,14 @@
+-- The tally's answer in the paper's numbers: the refusal, and the tally, which is empty where the question is refused.
+use Rattle.std.specs.Prelude.{ℕ, ◌≡◌, List, Result, Ok, Err}
+use Rattle.numbers.specs.declared.Refusal.{Refusal}
+use Rattle.numbers.specs.Numbers.{number}
+use Rattle.bank.specs.Layout.{Layout}
+use Rattle.day.specs.declared.entries.Tally.{Tally}
+use Rattle.day.specs.Tallies.{DayAnswer, day_answer, empty, tally_of}
+
+abbrev pub answered : Result Tally Refusal → DayAnswer
+answered (Ok t) = day_answer 0 t
+answered (Err r) = day_answer (number r) empty
+
+abbrev pub TallyAnswer : Layout → List ℕ → ℕ → ℕ → Result Tally Refusal → Type 0
+TallyAnswer L b who day r = answered r ≡ tally_of L b who day
