@@ -7,11 +7,14 @@ use bank::Bank;
 use numbers::Refusal;
 use std::array;
 
+// How many bytes a bank has; by the promise of `load` it is twice the layout's own number of words.
+const BYTES: usize = 4488;
+
 // The words of a bank's bytes; of another length no words.
 pub(crate) fn load(bytes: &[u8]) -> Option<[u16; Bank::WORDS]>
     ensures { result ≡ cond (is_bank bytes.now) (Some (words_of bytes.now)) None }
 {
-    if bytes.len() != 2 * Bank::WORDS {
+    if bytes.len() != BYTES {
         return None;
     }
     Some(words(bytes))
