@@ -1,9 +1,10 @@
 // A bank of bytes and a bank of words, each made from the other. Words cross as two bytes, the low one first.
 ghost use Rattle.std.specs.Prelude.{◌≡◌, ◌*◌, length, cond, Some, None};
 ghost use Rattle.loargwen.specs.Bytes.{words_of, bytes_of};
-ghost use Rattle.loargwen.specs.Face.{bytes_after, is_bank};
+ghost use Rattle.loargwen.specs.Face.{is_bank};
+ghost use Rattle.loargwen.specs.OnWords.{OnWords};
 
-use bank::Bank;
+use bank::{Bank, Room};
 use numbers::Refusal;
 use std::array;
 
@@ -37,12 +38,22 @@ fn store(words: &[u16], bytes: &mut [u8])
     }
 }
 
-// Writes the words back where nothing was refused.
-pub(crate) fn write_back(refusal: u16, words: &[u16], bytes: &mut [u8])
-    requires { length bytes.old ≡ 2 * length words.now }
-    ensures { bytes.new ≡ bytes_after bytes.old refusal words.now }
+// Calls on the words of a bank's bytes, and writes them back where it refuses nothing.
+pub(crate) fn on_words<T, F: FnOnce(&mut [u16; Bank::WORDS]) -> Result<T, Refusal>>(
+    bank: &mut [u8],
+    call: F,
+) -> Result<T, Refusal>
+    requires { F.IsAlwaysCallable call }
+    ensures { OnWords F.FnOnce call bank.old result bank.new }
 {
-    if refusal == Refusal::DONE {
-        store(words, bytes);
+    let Some(mut words) = load(bank) else {
+        return Err(Refusal::Unfit);
+    };
+    match call(&mut words) {
+        Ok(answer) => {
+            store(&words, bank);
+            Ok(answer)
+        }
+        Err(refusal) => Err(refusal),
     }
 }
