@@ -6,6 +6,6 @@ pub mod Lengths  -- how long the report is at the most
 pub mod Rows  -- lines and log entries one after another
 -- ---- the bench
 pub mod Playing  -- one record; the records from a place on; a fit bank stays fit
-pub mod Reporting  -- which report it is; how long it is; a printed report keeps the promise
+pub mod Reporting  -- which of the three reports it is; a bank that is printed is fit; how long the report is
 pub mod Determined  -- what the promise allows is one report
 pub mod Example  -- the paper's worked example, by computing

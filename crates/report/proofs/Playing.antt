@@ -1,19 +1,21 @@
--- The records of a file one after another: a fit bank stays fit, and how the answer from a place on goes over it.
+-- The records of a file one after another: what one record comes to, and how the answer from a place on goes over it.
 use mathlib.Core.Path.{◌≡◌, refl, sym, ap, ◌∙◌}
 use mathlib.Core.Bool.{Bool, true, false, cond}
 use mathlib.Core.List.{List}
 use Prim.Native.Nat.{ℕ, zero, suc, ◌+◌, ◌≤◌}
+use native.Mathlib.Nat.{add-zero}
 use native.Mathlib.Omega.{arith}
 use lib.Dec.{eqb}
 use lib.ListN.{length}
 use borrow.Author.Tests.{eq-eqb, ne_eqb}
 use Rattle.bank.specs.Layout.{paper}
 use Rattle.bank.specs.Fit.{fit}
+use Rattle.bank.specs.Opening.{answer}
 use Rattle.refusals.specs.Step.{Asked, ask}
 use Rattle.group.specs.Promises.{step_of}
 use Rattle.bank.proofs.Rules.{pass, stop}
 use Rattle.group.proofs.Kept.{fit-step}
-use Rattle.settler.specs.Settling.{settle_of}
+use Rattle.settler.specs.Settling.{ending, settle_of}
 use Rattle.settler.proofs.Endings.{fit_settled}
 use Rattle.file.specs.Records.{Found, end, bad, got, settle_kind, find_at}
 use Rattle.file.proofs.Finding.{finds_end, Onward, goes_onward}
@@ -22,6 +24,23 @@ use Rattle.report.specs.Bench.{State, state, after_settle, after_step, applied, 
 -- ---- one record
 
 module _ (k : ℕ) (b : List ℕ) (x : Asked) where
+  pub applies_settle : {r j : ℕ} {q : Bool} {c : List ℕ} → x.kind ≡ settle_kind
+      → ending r j q c ≡ settle_of paper b x.a
+      → state (k + j) r c ≡ applied k b x
+  unfolding applied
+  applies_settle e p = rw e (ap (after_settle k) p)
+
+  module _ {r : ℕ} {c : List ℕ} (other : x.kind ≡ settle_kind → ⊥) (p : answer r c ≡ step_of paper b x) where
+    applies_step : state (k + cond (eqb r 0) 1 0) r c ≡ applied k b x
+    unfolding applied
+    applies_step = ap (after_step k) p ∙ sym (stop _ (ne_eqb _ _ other) refl)
+
+    pub applies_accepted : r ≡ 0 → state (k + 1) 0 c ≡ applied k b x
+    applies_accepted e = rw e at applies_step
+
+    pub applies_refused : (r ≡ 0 → ⊥) → state k r c ≡ applied k b x
+    applies_refused e = rw (ne_eqb r 0 e, add-zero) at applies_step
+
   pub fit-applied : fit paper b ≡ true → fit paper (applied k b x).bank ≡ true
   unfolding applied
   fit-applied f = go (eqb x.kind settle_kind)

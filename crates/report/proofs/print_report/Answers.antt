@@ -16,4 +16,4 @@ returns c =
     let opens = c.open-refusal.ensures ∙ ap₂ (open_of paper blank_bank) c.word_at.ensures c.word_at-2.ensures in
     let begun = sym c.begun.ensures ∙ c.if-not-begun.false in
     then c.bank_lines.ensures c.end_line-2.ensures
-    (reports_played _ begun opens c.if-refusal-ne-DONE.false c.play-played.ensures)
+    (sym (reports_played _ begun opens c.if-refusal-ne-DONE.false c.play-played.ensures))
