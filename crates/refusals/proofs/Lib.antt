@@ -7,5 +7,5 @@ pub mod Lowest  -- the lowest number that applies is given
 pub mod DeliveryTest  -- the delivery test as four laws, and what follows from them alone
 pub mod Accepted  -- a step that is not refused was asked for, in a fit bank, and is allowed
 -- ---- the calls
-pub mod Deciding  -- why a function's answer is right, by the tests that it made
+pub mod Deciding  -- what a test decides; pages of docs name these
 pub mod Determined  -- what each promise allows is one answer
