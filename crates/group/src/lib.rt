@@ -1,6 +1,6 @@
 // The group's seven steps: what each writes, and one step, over a bank that the caller lends. Nothing is kept between
-// calls. Everything is for both sizes of bank. What is right stands in
-// specs/, what each call promises in specs/Promises.antt.
+// calls. Everything is for both sizes of bank. What is right stands in specs/, what each call promises in
+// specs/Promises.antt.
 #![tactic(auto)]
 
 mod one_step;

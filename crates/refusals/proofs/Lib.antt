@@ -8,5 +8,5 @@ pub mod DeliveryTest  -- the delivery test as four laws, and what follows from t
 pub mod Accepted  -- a step that is not refused was asked for, in a fit bank, and is allowed
 pub mod SameSteps  -- the code's steps are the definitions'
 -- ---- the calls
-pub mod Deciding  -- why a function's answer is right, by the tests that it made
+pub mod Deciding  -- what a test decides; pages of docs name these
 pub mod Determined  -- what each promise allows is one answer
