@@ -171,13 +171,13 @@ set_of-has w (suc n) =
     (w / 2 ^ n)
     ∙ sym (ap (λ k. w % 2 ^ k) (sym (one-add n)) ∙ mod-pow-add w 1 n)
 
-pub less-word : (u w : ℕ) → u < 2 ^ 16 → u - bit_and u w ≡ less u w
+pub less_word : (u w : ℕ) → u < 2 ^ 16 → u - bit_and u w ≡ less u w
 unfolding less cut
-less-word u w h =
+less_word u w h =
     sym
     (ap (λ p. set_of p 16) (fun_ext (λ i. sym (has-less u w i)))
     ∙ set_of-has (u - bit_and u w) 16
     ∙ mod-eq_of_lt (omega arith))
 
 pub has_left : (u w j : ℕ) → u < 2 ^ 16 → has (less u w) j ≡ (has u j && not (has w j))
-has_left u w j h = ap (λ x. has x j) (sym (less-word u w h)) ∙ has-less u w j
+has_left u w j h = ap (λ x. has x j) (sym (less_word u w h)) ∙ has-less u w j

@@ -1,4 +1,7 @@
 -- What the code's bit operations make of a word of sixteen bits, where an index or a bound may be larger.
+use Rattle.std.specs.Prelude.{Option, Some, None}
+use Rattle.std.specs.Option.{SomeIff, unwrap_or}
+use Rattle.std.proofs.lemmas.Nat.{and-not, and_comm}
 use mathlib.Core.Path.{◌≡◌, refl, sym, ap, fun_ext, ◌∙◌}
 use mathlib.Core.Logic.{◌⊎◌, inl, inr, ⊎_elim}
 use mathlib.Core.Bool.{Bool, true, false, not, ◌&&◌, ◌||◌, not-not}
@@ -21,11 +24,19 @@ lt_or_ge i n = go (ltb i n) refl
     go true e = inl (ltb-true i n e)
     go false e = inr (ltb-false i n e)
 
+pub has_none_above : (w i : ℕ) → w < 2 ^ 16 → 16 ≤ i → has w i ≡ false
+has_none_above w i h l = has-outside w 16 i h l
+
 pub shl_one : (i : ℕ) → i < 16 → (1 * 2 ^ i) % 2 ^ 16 ≡ 2 ^ i
 shl_one i h = shl_exact 1 i 16 (lit< tt) (omega arith) ∙ one-mul (2 ^ i)
 
 pub join_bit : (i : ℕ) → i < 16 → join 0 i ≡ 2 ^ i
 join_bit i l = join-with 0 i l ∙ with-or 0 i
+
+-- where there is no such bit the shift is not given
+pub checked_bit : (i : ℕ) (b : Option ℕ) → SomeIff b (i < 16) ((1 * 2 ^ i) % 2 ^ 16) → unwrap_or b 0 ≡ join 0 i
+checked_bit i None h = sym (join-outside 0 i (omega (arith, h)))
+checked_bit i (Some b) h = h.1 ∙ shl_one i h.0 ∙ sym (join_bit i h.0)
 
 pub or-join : (w i : ℕ) → bit_or w (join 0 i) ≡ join w i
 or-join w i =
@@ -33,9 +44,13 @@ or-join w i =
     (λ l. rw (join-outside 0 i l, join-outside w i l) (or_zero_r w))
     (lt_or_ge i 16)
 
-pub less-join : (w i : ℕ) → w < 2 ^ 16 → w - bit_and w (join 0 i) ≡ without w i
+-- the complement of w takes from u what u has of w
+pub and_off : (u w : ℕ) → u < 2 ^ 16 → w < 2 ^ 16 → bit_and u (65535 - w) ≡ u - bit_and u w
+and_off u w h l = omega (arith, and-not 16 w u l h, and_comm u (65535 - w), and_comm u w)
+
+pub less_join : (w i : ℕ) → w < 2 ^ 16 → w - bit_and w (join 0 i) ≡ without w i
 unfolding without
-less-join w i h =
+less_join w i h =
     ⊎_elim (λ l. rw (join_bit i l) (sym (without-less w i)))
     (λ l. rw (join-outside 0 i l, and_zero_r, has-outside w 16 i h l) (sub-zero w))
     (lt_or_ge i 16)

@@ -5,17 +5,19 @@ ghost use Rattle.std.specs.Prelude.{◌≡◌, min};
 ghost use Rattle.sets.specs.Set;
 
 // Whether controller i is a member.
+#[tactic(auto, using(crate::proofs::Words::has_none_above), unfolding(crate::specs::Set::has))]
 pub fn has(w: u16, i: u16) -> bool
     ensures { result ≡ Set.has w i }
 {
-    if i < 16 { (w >> i) % 2 == 1 } else { false }
+    i < 16 && (w >> i) % 2 == 1
 }
 
 // Bit i alone, and no bit where a word has none.
+#[tactic(auto, using(crate::proofs::Words::checked_bit))]
 fn bit(i: u16) -> u16
     ensures { result ≡ Set.join 0 i }
 {
-    if i < 16 { 1 << i } else { 0 }
+    1u16.checked_shl(u32::from(i)).unwrap_or(0)
 }
 
 // The set with controller i, as far as a word has a bit for it.
@@ -26,10 +28,11 @@ pub fn join(w: u16, i: u16) -> u16
 }
 
 // The set without controller i.
+#[tactic(auto, using(crate::proofs::Words::and_off, crate::proofs::Words::less_join))]
 pub fn without(w: u16, i: u16) -> u16
     ensures { result ≡ Set.without w i }
 {
-    w - (w & bit(i))
+    w & !bit(i)
 }
 
 // All controllers below n.
@@ -62,17 +65,19 @@ pub fn count_below(w: u16, n: u16) -> u32
 }
 
 // Whether every member of u below n is a member of w.
+#[tactic(auto, using(crate::proofs::Words::and_off, crate::proofs::Words::less_none))]
 pub fn within(u: u16, w: u16, n: u16) -> bool
     ensures { result ≡ Set.within u w n }
 {
-    cut(u - (u & w), n) == 0
+    cut(u & !w, n) == 0
 }
 
 // The members of u that w does not have.
+#[tactic(auto, using(crate::proofs::Words::and_off, crate::proofs::Least::less_word))]
 pub fn less(u: u16, w: u16) -> u16
     ensures { result ≡ Set.less u w }
 {
-    u - (u & w)
+    u & !w
 }
 
 // The lowest member below n, or n where there is none.
