@@ -8,7 +8,6 @@ use Rattle.refusals.specs.Promises.{Allowed}
 use Rattle.group.specs.Promises.{after, step_of, StepPromise}
 use Rattle.lists.specs.Lists.{run_of, RunPromise}
 use Rattle.settler.specs.Settling.{ending, settle_of, SettlePromise}
-use Rattle.step_records.specs.declared.Step.{Step as StepRecord}
 use Rattle.step_records.specs.Records.{flat, StepsPromise}
 use Rattle.laws.specs.Runs.{Run}
 use Rattle.laws.specs.Demand.{Reached}
@@ -41,7 +40,7 @@ pub data Call : Type 0 where
   open_refused : (n mode refusal : ℕ) → (refusal ≡ 0 → ⊥) → Call
   step : (x : Asked) (refusal : ℕ) → Call
   run : (steps : List ℕ) (accepted refusal : ℕ) → Call
-  run_steps : (steps : List StepRecord) (accepted refusal : ℕ) → Call
+  run_steps : (steps : List Asked) (accepted refusal : ℕ) → Call
   settle : (budget refusal steps : ℕ) (quiet : Bool) → Call
 
 -- what the call promises of the bank before it and the bank after it
@@ -75,7 +74,7 @@ pub record EveryAnswer (b : List ℕ) : Type 0 where
       → let a = step_of paper b x in Promised b (step x a.refusal) a.bank
   pub of_run : (list : List ℕ)
       → let o = run_of paper b list in Promised b (run list o.accepted o.refusal) o.bank
-  pub of_records : (list : List StepRecord)
+  pub of_records : (list : List Asked)
       → let o = run_of paper b (flat list) in Promised b (run_steps list o.accepted o.refusal) o.bank
   pub of_settle : (d : ℕ)
       → let e = settle_of paper b d in Promised b (settle d e.refusal e.steps e.quiet) e.bank
