@@ -1,5 +1,5 @@
 -- play: a record that is applied moves what is left to the place after it (`plays_on`); one that is refused
--- (`plays_refused`), a bad one (`plays_bad`) and the end (`plays_end`) are the last that is looked at.
+-- (`plays_refused`) is the last that is looked at. The end and a bad one follow from the laws that the function names.
 use mathlib.Core.Path.{refl, sym, ap, ◌∙◌}
 use native.Mathlib.Omega.{arith}
 use Rattle.std.specs.Prelude.{Ok}
