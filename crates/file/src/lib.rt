@@ -112,7 +112,12 @@ pub fn find_at(s: &[u8], i: usize) -> Result<Option<Record>, Refusal>
     let a = number_at(s, i, 1);
     let asks = match kind {
         RecordKind::Settle => Asks::Settle { budget: a },
-        _ => Asks::Step(Asked { kind: number, a, b: number_at(s, i, 2), c: number_at(s, i, 3) }),
+        _ => Asks::Step(Asked {
+            kind: number,
+            a,
+            b: number_at(s, i, 2),
+            c: number_at(s, i, 3),
+        }),
     };
     Ok(Some(Record { asks, next }))
 }

@@ -32,5 +32,6 @@ allowed_determined L b x {r} {s} e p f q =
   where
     asked_for : {r : Result Taken Refusal} (t : Taken) → r ≡ Ok t → Asks x r → asked x ≡ some (step_of t)
     asked_for t i p = rw i at p
+
     same : {s t : Step} → some s ≡ some t → s ≡ t
     same e = cc

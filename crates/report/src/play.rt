@@ -26,13 +26,16 @@ impl Player {
             ≡ applied self.old.steps self.old.bank (asked_of asks) }
         ensures steps_bound { self.new.steps ≤ self.old.steps + 65535 }
     {
-        self.steps += match asks {
-            Asks::Settle { budget } => u32::from(settler::settle::<Bank>(&mut self.bank, budget)?.steps),
+        match asks {
+            Asks::Settle { budget } => {
+                let settled = settler::settle::<Bank>(&mut self.bank, budget)?;
+                self.steps += u32::from(settled.steps);
+            }
             Asks::Step(asked) => {
                 group::step::<Bank>(&mut self.bank, asked)?;
-                1
+                self.steps += 1;
             }
-        };
+        }
         Ok(())
     }
 
