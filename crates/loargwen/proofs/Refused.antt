@@ -1,5 +1,5 @@
 -- A call that is refused leaves the bytes.
-use Rattle.std.proofs.Common.{◌≡◌, ℕ, List, Bool, true, false, cond, Some, None, Err, Result, refl, subst}
+use Rattle.std.proofs.Common.{◌≡◌, ℕ, List, Bool, true, false, cond, Some, None, Err, refl, subst}
 use Rattle.std.specs.Fn.{FnOnceReturnsAtMut}
 use Rattle.numbers.specs.declared.Refusal.{Refusal}
 use Rattle.loargwen.specs.Bytes.{words_of}

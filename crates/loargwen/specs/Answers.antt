@@ -1,5 +1,5 @@
 -- The answers of several numbers, as C programs have them.
-use Rattle.std.specs.Prelude.{cond, Result, Ok, Err}
+use Rattle.std.specs.Prelude.{Result, Ok, Err}
 use Rattle.numbers.specs.declared.Refusal.{Refusal}
 use Rattle.numbers.specs.Numbers.{number}
 use Rattle.settler.specs.declared.Settled.{Settled as Quieted}

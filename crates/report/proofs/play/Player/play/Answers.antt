@@ -1,11 +1,9 @@
 -- play: a record that is applied moves what is left to the place after it (`plays_on`); one that is refused
 -- (`plays_refused`) is the last that is looked at. The end and a bad one follow from the laws that the function names.
-use mathlib.Core.Path.{refl, sym, ap, ◌∙◌}
+use mathlib.Core.Path.{refl, ◌∙◌}
 use native.Mathlib.Omega.{arith}
-use Rattle.std.specs.Prelude.{Ok}
 use borrow.Author.Rules.{rules}
 use Rattle.numbers.proofs.OneAnswer.{refused_above}
-use Rattle.file.specs.Promises.{read_as}
 use Rattle.file.proofs.Finding.{record_onward}
 use Rattle.report.proofs.Playing.{plays_on, plays_refused}
 use Rattle.report.proofs.play.Player.play.Goals as goal
