@@ -58,10 +58,11 @@ pub fn with_all(w: u16, n: u16) -> u16
 }
 
 // How many members are below n.
+#[tactic(auto, using(crate::proofs::Counts::count_ones))]
 pub fn count_below(w: u16, n: u16) -> u32
     ensures { result ≡ Set.count_below w n }
 {
-    u16::count_ones(cut(w, n))
+    cut(w, n).count_ones()
 }
 
 // Whether every member of u below n is a member of w.
@@ -88,5 +89,5 @@ pub fn lowest(w: u16, n: u16) -> u16
     if members == 0 {
         return n;
     }
-    u16::trailing_zeros(members) as u16
+    members.trailing_zeros() as u16
 }
