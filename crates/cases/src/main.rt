@@ -3,6 +3,8 @@
 // line says what was asked and what was answered; the file stdout beside this folder says what it should be.
 #![tactic(auto)]
 
+mod groups;
+mod kinds;
 mod openings;
 mod questions;
 mod say;

@@ -1,19 +1,35 @@
-// Printing: a name and the number that a call gave back.
+// Printing: a name and the number of what a call answered.
+use bank::Bank;
+use numbers::{Asked, Refusal};
+use refusals::Step;
 use std::io;
 use std::io::Print;
 
-pub(crate) fn refusal(rt: &impl Print, what: &str, got: u16) -> io::Result<()> {
-    println!(rt; "{what} {got}")
+// What refuses the call, or 0.
+pub(crate) fn refusal<T: Copy>(
+    rt: &impl Print,
+    what: &str,
+    answer: Result<T, Refusal>,
+) -> io::Result<()> {
+    println!(rt; "{what} {}", numbers::number(answer.map(|_| ())))
 }
 
-// The answer to each step, asked one after the other: its name, its kind and its three numbers.
-pub(crate) fn steps(
+// The answer to each step, taken one after the other.
+pub(crate) fn taken(rt: &impl Print, bank: &mut [u16], steps: &[(&str, Step)]) -> io::Result<()> {
+    for &(what, step) in steps {
+        refusal(rt, what, group::take::<Bank>(bank, step))?;
+    }
+    Ok(())
+}
+
+// The same where four numbers ask for the step, or for none.
+pub(crate) fn asked(
     rt: &impl Print,
     bank: &mut [u16],
-    asked: &[(&str, u16, [u16; 3])],
+    steps: &[(&str, [u16; 4])],
 ) -> io::Result<()> {
-    for &(what, kind, [a, b, c]) in asked {
-        refusal(rt, what, group::step(bank, kind, a, b, c))?;
+    for &(what, [kind, a, b, c]) in steps {
+        refusal(rt, what, group::step::<Bank>(bank, Asked { kind, a, b, c }))?;
     }
     Ok(())
 }

@@ -1,6 +1,6 @@
 -- The code's steps are the definitions' steps, each way, and four numbers ask for the same ones.
 use Rattle.std.specs.Prelude.{◌≡◌, Result, IfOk, MatchResult}
-use Rattle.std.proofs.Math.Option.{Option, none, some}
+use Rattle.std.proofs.Math.Option.{none, some}
 use Rattle.numbers.specs.declared.Asked.{Asked}
 use Rattle.numbers.specs.declared.Refusal.{Refusal}
 use Rattle.numbers.specs.declared.Refusal.TheVariants.{NoStep}

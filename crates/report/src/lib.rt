@@ -9,8 +9,9 @@ ghost use Rattle.std.specs.Prelude.{◌≤◌};
 ghost use Rattle.report.specs.Bench.{BenchPromise, bench_of};
 ghost use Rattle.report.specs.Text.{Prints};
 
-use bank::Bank;
+use bank::{Bank, Room};
 use numbers::Refusal;
+use play::Player;
 use text::Printer;
 
 // No report is longer: the group 28 bytes, 32 messages 87 each, 16 controllers 376 each, the end 26, with ten digits
@@ -33,14 +34,18 @@ fn print_report(to: &mut Printer, input: &[u8])
     ensures { Prints to.old (bench_of input.now) to.new }
 {
     if !file::begun(input) {
-        return lines::end_line(to, 0, Refusal::BAD_RECORD);
+        return lines::end_line(to, 0, Err(Refusal::BadRecord));
     }
-    let mut bank = [0u16; Bank::WORDS];
-    let refusal = bank::open(&mut bank, file::word_at(input, 4), file::word_at(input, 6));
-    if refusal != Refusal::DONE {
-        return lines::end_line(to, 0, refusal);
+    let mut player = Player {
+        bank: [0; Bank::WORDS],
+        steps: 0,
+    };
+    let n = file::word_at(input, 4);
+    let mode = file::word_at(input, 6);
+    if let Err(refusal) = bank::open::<Bank>(&mut player.bank, n, mode) {
+        return lines::end_line(to, 0, Err(refusal));
     }
-    let played = play::play(&mut bank, input);
-    lines::bank_lines(to, &bank);
-    lines::end_line(to, played.steps, played.refusal);
+    let ended = player.play(input);
+    lines::bank_lines(to, &player.bank);
+    lines::end_line(to, player.steps, ended);
 }

@@ -1,4 +1,5 @@
 // The lines that the bench prints of a bank, which they only read.
+ghost use Rattle.numbers.specs.Numbers.{given};
 ghost use Rattle.bank.specs.Place;
 ghost use Rattle.bank.specs.Layout.{paper, words, up_from};
 ghost use Rattle.report.specs.Text.{Prints};
@@ -7,7 +8,8 @@ ghost use Rattle.report.specs.Lines.{group_line, message_head, message_sets, mes
 ghost use Rattle.report.specs.Lines.{up_or_down, controller_line, bank_lines, end_line};
 
 use crate::text::Printer;
-use bank::{Bank, FULL};
+use bank::Bank;
+use numbers::Refusal;
 
 // N and mode.
 fn group_line(to: &mut Printer, bank: &[u16])
@@ -23,17 +25,17 @@ fn message_head(to: &mut Printer, bank: &[u16], m: u16)
     ensures { Prints to.old (message_head bank.now m) to.new }
 {
     to.number(b"msg ", m);
-    to.number(b" from ", bank::sender(bank, FULL, m));
-    to.number(b" at ", bank::stamp(bank, FULL, m));
-    to.number(b" value ", bank::value(bank, FULL, m));
+    to.number(b" from ", bank::sender::<Bank>(bank, m));
+    to.number(b" at ", bank::stamp::<Bank>(bank, m));
+    to.number(b" value ", bank::value::<Bank>(bank, m));
 }
 
 // Who holds the message and who has delivered it.
 fn message_sets(to: &mut Printer, bank: &[u16], m: u16)
     ensures { Prints to.old (message_sets bank.now m) to.new }
 {
-    to.set(b" held ", bank::held(bank, FULL, m));
-    to.set(b" delivered ", bank::delivered(bank, FULL, m));
+    to.set(b" held ", bank::held::<Bank>(bank, m));
+    to.set(b" delivered ", bank::delivered::<Bank>(bank, m));
     to.put(b'\n');
 }
 
@@ -69,7 +71,7 @@ fn controller_line(to: &mut Printer, bank: &[u16], i: u16)
 {
     to.number(b"ctl ", i);
     up_or_down(to, sets::has(bank::word(bank, Bank::UP), i));
-    entries(to, lists::log(bank, i));
+    entries(to, lists::log::<Bank>(bank, i));
     to.put(b'\n');
 }
 
@@ -105,12 +107,12 @@ pub(crate) fn bank_lines(to: &mut Printer, bank: &[u16])
     controller_lines(to, bank);
 }
 
-// The steps applied and the refusal.
-pub(crate) fn end_line(to: &mut Printer, steps: u32, refusal: u16)
-    ensures { Prints to.old (end_line steps refusal) to.new }
+// The steps applied, and the refusal after them.
+pub(crate) fn end_line(to: &mut Printer, steps: u32, ended: Result<(), Refusal>)
+    ensures { Prints to.old (end_line steps (given ended)) to.new }
 {
     to.put_all(b"end ");
     to.decimal(steps);
-    to.number(b" ", refusal);
+    to.number(b" ", numbers::number(ended));
     to.put(b'\n');
 }

@@ -1,72 +1,51 @@
 // The records of a file, applied to a bank one after another up to the first refusal. The bank is changed through the
 // group's steps and the settler alone.
 ghost use Rattle.std.specs.Prelude.{◌≡◌, ◌+◌, ◌≤◌, ◌<◌, ◌^◌, length};
-ghost use Rattle.refusals.specs.Step.{ask};
+ghost use Rattle.numbers.specs.Numbers.{given};
 ghost use Rattle.report.specs.Bench.{state, applied, play_from};
 
-use file::{Found, Record};
-use numbers::Refusal;
+use bank::{Bank, Room};
+use numbers::{Asked, Refusal};
 
-// The steps applied, and the refusal or 0.
-#[derive(Clone, Copy)]
-pub(crate) struct Played {
+// The bank, and the steps applied to it so far.
+#[derive(Drop)]
+pub(crate) struct Player {
+    pub(crate) bank: [u16; Bank::WORDS],
     pub(crate) steps: u32,
-    pub(crate) refusal: u16,
 }
 
-// One record after so many steps: a settle, or a step of the four numbers.
-#[tactic(auto, unfolding(crate::specs::Bench::applied))]
-fn apply(bank: &mut [u16], steps: u32, r: Record) -> Played
-    requires { steps + 65535 < 2 ^ 32 }
-    ensures bank_after { state result.steps result.refusal bank.new
-        ≡ applied steps bank.old (ask r.kind r.a r.b r.c) }
-    ensures steps_bound { result.steps ≤ steps + 65535 }
-{
-    if r.kind == file::SETTLE {
-        let s = settler::settle(bank, r.a);
-        return Played {
-            steps: steps + u32::from(s.steps),
-            refusal: s.refusal,
-        };
-    }
-    let refusal = group::step(bank, r.kind, r.a, r.b, r.c);
-    if refusal != Refusal::DONE {
-        return Played { steps, refusal };
-    }
-    Played {
-        steps: steps + 1,
-        refusal: Refusal::DONE,
-    }
-}
-
-// All records after the open.
-pub(crate) fn play(bank: &mut [u16], s: &[u8]) -> Played
-    requires { (8 ≤ length s.now) × (length s.now ≤ 65536) }
-    ensures { state result.steps result.refusal bank.new
-        ≡ play_from (length s.now) s.now 8 0 bank.old }
-{
-    let mut i: usize = 8;
-    let mut steps: u32 = 0;
-    loop {
-        let found = file::find_at(s, i);
-        match found {
-            Found::End => {
-                return Played {
-                    steps,
-                    refusal: Refusal::DONE,
-                };
-            }
-            Found::Bad(refusal) => {
-                return Played { steps, refusal };
-            }
-            Found::Got(r) => {
-                let t = apply(bank, steps, r);
-                if t.refusal != Refusal::DONE {
-                    return t;
-                }
-                steps = t.steps;
-                i = r.next;
-            }
+impl Player {
+    // One record: a settle, or a step of the four numbers.
+    #[tactic(auto, unfolding(crate::specs::Bench::applied))]
+    fn apply(&mut self, asked: Asked) -> Result<(), Refusal>
+        requires { self.old.steps + 65535 < 2 ^ 32 }
+        ensures bank_after { state self.new.steps (given result) self.new.bank
+            ≡ applied self.old.steps self.old.bank asked }
+        ensures steps_bound { self.new.steps ≤ self.old.steps + 65535 }
+    {
+        if asked.kind == file::SETTLE {
+            let settled = settler::settle::<Bank>(&mut self.bank, asked.a)?;
+            self.steps += u32::from(settled.steps);
+        } else {
+            group::step::<Bank>(&mut self.bank, asked)?;
+            self.steps += 1;
         }
+        Ok(())
+    }
+
+    // All records after the open.
+    #[tactic(auto, using(crate::proofs::Playing::plays_end, crate::proofs::Playing::plays_bad))]
+    pub(crate) fn play(&mut self, s: &[u8]) -> Result<(), Refusal>
+        requires within { (8 ≤ length s.now) × (length s.now ≤ 65536) }
+        requires anew { self.old.steps ≡ 0 }
+        ensures { state self.new.steps (given result) self.new.bank
+            ≡ play_from (length s.now) s.now 8 0 self.old.bank }
+    {
+        let mut i = 8;
+        while let Some(record) = file::find_at(s, i)? {
+            self.apply(record.asked)?;
+            i = record.next;
+        }
+        Ok(())
     }
 }

@@ -32,9 +32,8 @@ settled_of e = record { steps = e.steps; quiet = e.quiet }
 pub answer_determined : (L : Layout) (b : List ℕ) (budget : ℕ) {r s : Result Settled Refusal} {c d : List ℕ}
     → SettleAnswer L b budget r c → SettleAnswer L b budget s d → (r ≡ s) × (c ≡ d)
 answer_determined L b budget {r} {s} {c} {d} e f =
-    let g = e ∙ sym f in
-    (
+    let g = e ∙ sym f in (
       one_result_by r s (sym (ended_number r c) ∙ ap (λ o. o.refusal) g ∙ ended_number s d)
-      (λ x y i j. ap settled_of (sym (ap (λ a. ended a c) i) ∙ g ∙ ap (λ a. ended a d) j)),
+          (λ x y i j. ap settled_of (sym (ap (λ a. ended a c) i) ∙ g ∙ ap (λ a. ended a d) j)),
       sym (ended_bank r c) ∙ ap (λ o. o.bank) g ∙ ended_bank s d,
     )

@@ -30,5 +30,8 @@ pub fn settle<R: Room>(bank: &mut [u16], budget: u16) -> Result<Settled, Refusal
         group::take::<R>(bank, step).unwrap();
     }
     let quiet = search::first_step::<R>(bank).is_none();
-    Ok(Settled { steps: budget, quiet })
+    Ok(Settled {
+        steps: budget,
+        quiet,
+    })
 }

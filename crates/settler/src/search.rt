@@ -6,7 +6,7 @@ ghost use Rattle.bank.specs.Layout.{layout, words};
 ghost use Rattle.refusals.specs.Step.{detect, deliver};
 ghost use Rattle.refusals.specs.Asking.{taken};
 ghost use Rattle.settler.specs.Candidates;
-ghost use Rattle.settler.specs.Candidates.{below, pairs, of_message, first_of, free};
+ghost use Rattle.settler.specs.Candidates.{below, each, pairs, of_message, first_of, free};
 ghost use Rattle.settler.specs.Moves.{next_of, copy_step, copy_set};
 
 use bank::{Bank, Room};
@@ -36,8 +36,16 @@ impl Copies {
         ensures { result ≡ taken (copy_step self message i j) }
     {
         match self {
-            Copies::ToSend => Step::Send { from: i, to: j, message },
-            Copies::InFlight => Step::Receive { at: i, from: j, message },
+            Copies::ToSend => Step::Send {
+                from: i,
+                to: j,
+                message,
+            },
+            Copies::InFlight => Step::Receive {
+                at: i,
+                from: j,
+                message,
+            },
         }
     }
 }
@@ -53,15 +61,13 @@ fn first_detect<R: Room>(bank: &[u16]) -> Option<Step>
     }
     let n = bank::word(bank, Bank::N);
     let up = bank::word(bank, Bank::UP);
-    for i in 0..n {
-        if sets::has(up, i) {
-            let j = sets::lowest(sets::less(bank::view(bank, i), up), n);
-            if j < n {
-                return Some(Step::Detect { at: i, of: j });
-            }
+    (0..n).find_map(|i| {
+        if !sets::has(up, i) {
+            return None;
         }
-    }
-    None
+        let j = sets::lowest(sets::less(bank::view(bank, i), up), n);
+        (j < n).then_some(Step::Detect { at: i, of: j })
+    })
 }
 
 // The first copy of message m that is to be sent or received, by a controller that is up.
@@ -73,15 +79,13 @@ fn first_copy<R: Room>(bank: &[u16], copies: Copies, m: u16) -> Option<Step>
 {
     let n = bank::word(bank, Bank::N);
     let up = bank::word(bank, Bank::UP);
-    for i in 0..n {
-        if sets::has(up, i) {
-            let j = sets::lowest(copies.set::<R>(bank, m, i), n);
-            if j < n {
-                return Some(copies.step(m, i, j));
-            }
+    (0..n).find_map(|i| {
+        if !sets::has(up, i) {
+            return None;
         }
-    }
-    None
+        let j = sets::lowest(copies.set::<R>(bank, m, i), n);
+        (j < n).then_some(copies.step(m, i, j))
+    })
 }
 
 // The first delivery of message m; only those who hold it and have not delivered it are asked about.
@@ -91,16 +95,14 @@ fn first_deliver<R: Room>(bank: &[u16], m: u16) -> Option<Step>
         (map (λ i. deliver i m) (below (words (layout R.room) bank.now N)))) }
 {
     let waiting = sets::less(bank::held::<R>(bank, m), bank::delivered::<R>(bank, m));
-    for i in 0..bank::word(bank, Bank::N) {
-        if sets::has(waiting, i) && refusals::delivery_refusal::<R>(bank, i, m).is_ok() {
-            return Some(Step::Deliver { at: i, message: m });
-        }
-    }
-    None
+    (0..bank::word(bank, Bank::N)).find_map(|i| {
+        let due = sets::has(waiting, i) && refusals::delivery_refusal::<R>(bank, i, m).is_ok();
+        due.then_some(Step::Deliver { at: i, message: m })
+    })
 }
 
 // Of one message: its sends, then its receipts, then its deliveries.
-#[tactic(auto, using(crate::proofs::Taking::next_joined))]
+#[tactic(auto, using(crate::proofs::Mapped::next_joined))]
 fn first_of_message<R: Room>(bank: &[u16], m: u16) -> Option<Step>
     requires { m < words (layout R.room) bank.now count }
     ensures { result
@@ -112,17 +114,19 @@ fn first_of_message<R: Room>(bank: &[u16], m: u16) -> Option<Step>
         .or_else(|| first_deliver::<R>(bank, m))
 }
 
+// The messages in turn.
+fn first_of_messages<R: Room>(bank: &[u16]) -> Option<Step>
+    ensures { result
+        ≡ next_of (first_of (free (layout R.room) bank.now)
+        (each (of_message (words (layout R.room) bank.now N)) (below (words (layout R.room) bank.now count)))) }
+{
+    (0..bank::word(bank, Bank::COUNT)).find_map(|m| first_of_message::<R>(bank, m))
+}
+
 // Detects first, then the messages in turn.
+#[tactic(auto, using(crate::proofs::Mapped::next_split))]
 pub(crate) fn first_step<R: Room>(bank: &[u16]) -> Option<Step>
     ensures { result ≡ next_of (Candidates.next (layout R.room) bank.now) }
 {
-    if let Some(step) = first_detect::<R>(bank) {
-        return Some(step);
-    }
-    for m in 0..bank::word(bank, Bank::COUNT) {
-        if let Some(step) = first_of_message::<R>(bank, m) {
-            return Some(step);
-        }
-    }
-    None
+    first_detect::<R>(bank).or_else(|| first_of_messages::<R>(bank))
 }

@@ -1,5 +1,5 @@
 -- open_views: what is written so far, with the views from i on, is what all the views make of the bank.
-use Rattle.std.proofs.Common.{◌≡◌, ◌-◌, length}
+use Rattle.std.proofs.Common.{◌≡◌, ◌-◌}
 use Rattle.bank.specs.Layout.{layout, address, puts}
 use Rattle.bank.specs.Opening.{views}
 use Rattle.bank.proofs.opening.open_views.Given as goal

@@ -1,5 +1,4 @@
 -- logs_fit: a log that fits makes those before it one more, and one that does not decides.
-use Rattle.std.proofs.Common.{rules, ◌≡◌, nat_lt}
 use mathlib.Core.Path.{refl, sym}
 use borrow.Author.Tests.{le-leb, lt-leb}
 use Rattle.sets.specs.Set.{every}

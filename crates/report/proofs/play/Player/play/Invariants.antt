@@ -4,17 +4,16 @@ use mathlib.Core.Path.{◌≡◌}
 use mathlib.Core.List.{List}
 use lib.ListN.{length}
 use Rattle.report.specs.Bench.{play_from}
-use Rattle.report.proofs.play.play.Given as goal
+use Rattle.report.proofs.play.Player.play.Given as goal
 
 -- what holds when place i is reached; each record has six bytes or more and at most 65,535 steps
 pub record Turn (s bank₀ bank : List ℕ) (i steps : ℕ) : Type 0 where
   pub inside : i ≤ length s
   pub counted : 6 * steps ≤ 65535 * i
-  pub as_long : length bank ≡ length bank₀
   pub rest : play_from (length s) s 8 0 bank₀ ≡ play_from (length s) s i steps bank
 
-abbrev pub invariant-loop-refusal : goal.invariant-loop-refusal
-invariant-loop-refusal l = Turn l.s l.initial.bank l.bank l.i l.steps
+abbrev pub invariant-loop-record : goal.invariant-loop-record
+invariant-loop-record l = Turn l.s l.initial.self.bank l.self.bank l.i l.self.steps
 
-abbrev pub decreases-loop-refusal : goal.decreases-loop-refusal
-decreases-loop-refusal l = length l.s - l.i
+abbrev pub decreases-loop-record : goal.decreases-loop-record
+decreases-loop-record l = length l.s - l.i
