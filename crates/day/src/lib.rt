@@ -1,5 +1,5 @@
-// The day tally over a log, in both sizes of bank. Reads the bank through the questions about a log and a message's words
-// by name; writes nothing.
+// The day tally over a log, in both sizes of bank. Reads the bank through the questions about a log and a message's
+// words by name; writes nothing.
 #![tactic(auto)]
 
 ghost use Rattle.bank.specs.Layout.{layout};

@@ -2,19 +2,59 @@
 #![tactic(auto)]
 
 ghost use Rattle.std.specs.Prelude.{◌≡◌, ◌+◌, ◌≤◌, ◌<◌, length, get_or};
-ghost use Rattle.file.specs.Records.{number_at, well_cut};
-ghost use Rattle.file.specs.Promises.{WordPromise, FindPromise, BegunPromise, LengthPromise};
+ghost use Rattle.file.specs.Records.{number_at, record_length, well_cut};
+ghost use Rattle.file.specs.Kinds.{kind_number, KindPromise};
+ghost use Rattle.file.specs.Promises.{WordPromise, FindPromise, BegunPromise};
 
 use numbers::{Asked, Kind, Refusal};
 
-pub const OPEN: u16 = 16;
+// The kinds of record, by their numbers in a file.
+#[derive(Clone, Copy, Debug, PartialEq, Eq)]
+enum RecordKind {
+    Step(Kind),
+    Open,
+    Settle,
+}
 
-pub const SETTLE: u16 = 17;
+impl TryFrom<u16> for RecordKind {
+    type Error = Refusal;
 
-// A kind and its numbers, 0 where it has none, and the place after the record.
+    ghost try_from_gives = { KindPromise };
+
+    fn try_from(kind: u16) -> Result<RecordKind, Refusal> {
+        match kind {
+            16 => Ok(RecordKind::Open),
+            17 => Ok(RecordKind::Settle),
+            _ => Ok(RecordKind::Step(Kind::try_from(kind)?)),
+        }
+    }
+}
+
+impl RecordKind {
+    // How many bytes follow the length in a record of that kind.
+    #[tactic(auto, unfolding(crate::specs::Records::record_length))]
+    fn length(self) -> u16
+        ensures { result ≡ record_length (kind_number self) }
+    {
+        match self {
+            RecordKind::Step(Kind::Broadcast | Kind::Send | Kind::Receive | Kind::Lose) => 8,
+            RecordKind::Open | RecordKind::Step(Kind::Deliver | Kind::Detect) => 6,
+            RecordKind::Settle | RecordKind::Step(Kind::Crash) => 4,
+        }
+    }
+}
+
+// What a record after the open asks for: a step by its four numbers, 0 where it has none, or a settle.
+#[derive(Clone, Copy, Debug, PartialEq, Eq)]
+pub enum Asks {
+    Step(Asked),
+    Settle { budget: u16 },
+}
+
+// A record, and the place after it.
 #[derive(Clone, Copy, Debug, PartialEq, Eq)]
 pub struct Record {
-    pub asked: Asked,
+    pub asks: Asks,
     pub next: usize,
 }
 
@@ -32,24 +72,6 @@ pub fn word_at(s: &[u8], i: usize) -> u16
         return 0;
     }
     u16::from_le_bytes([byte_at(s, i), byte_at(s, i + 1)])
-}
-
-// How many bytes follow the length in a record of a known kind.
-#[tactic(auto, unfolding(crate::specs::Records::record_length))]
-fn record_length(kind: u16) -> Option<u16>
-    ensures { LengthPromise kind result }
-{
-    match kind {
-        OPEN => return Some(6),
-        SETTLE => return Some(4),
-        _ => {}
-    }
-    match Kind::try_from(kind) {
-        Ok(Kind::Broadcast | Kind::Send | Kind::Receive | Kind::Lose) => Some(8),
-        Ok(Kind::Deliver | Kind::Detect) => Some(6),
-        Ok(Kind::Crash) => Some(4),
-        Err(_) => None,
-    }
 }
 
 // Whether the record at place i is whole, of even length, at least 4.
@@ -82,18 +104,22 @@ pub fn find_at(s: &[u8], i: usize) -> Result<Option<Record>, Refusal>
         return Ok(None);
     }
     Refusal::BadRecord.unless(well_cut(s, i))?;
-    let kind = word_at(s, i + 2);
-    let length = record_length(kind).ok_or(Refusal::NoStep)?;
-    Refusal::NoStep.unless(kind != OPEN)?;
-    Refusal::BadRecord.unless(word_at(s, i) == length)?;
-    let asked = Asked {
-        kind,
-        a: number_at(s, i, 1),
-        b: number_at(s, i, 2),
-        c: number_at(s, i, 3),
+    let number = word_at(s, i + 2);
+    let kind = RecordKind::try_from(number)?;
+    Refusal::NoStep.unless(kind != RecordKind::Open)?;
+    Refusal::BadRecord.unless(word_at(s, i) == kind.length())?;
+    let next = i + 2 + usize::from(kind.length());
+    let a = number_at(s, i, 1);
+    let asks = match kind {
+        RecordKind::Settle => Asks::Settle { budget: a },
+        _ => Asks::Step(Asked {
+            kind: number,
+            a,
+            b: number_at(s, i, 2),
+            c: number_at(s, i, 3),
+        }),
     };
-    let next = i + 2 + usize::from(length);
-    Ok(Some(Record { asked, next }))
+    Ok(Some(Record { asks, next }))
 }
 
 // Whether a file is short enough and begun by a whole open.
@@ -101,5 +127,6 @@ pub fn find_at(s: &[u8], i: usize) -> Result<Option<Record>, Refusal>
 pub fn begun(s: &[u8]) -> bool
     ensures { BegunPromise s.now result }
 {
-    s.len() <= 65536 && 8 <= s.len() && word_at(s, 0) == 6 && word_at(s, 2) == OPEN
+    let opens = matches!(RecordKind::try_from(word_at(s, 2)), Ok(RecordKind::Open));
+    s.len() <= 65536 && 8 <= s.len() && word_at(s, 0) == 6 && opens
 }

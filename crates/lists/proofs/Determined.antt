@@ -6,7 +6,7 @@ use Rattle.sets.proofs.Tests.{one_value}
 use Rattle.bank.specs.Layout.{Layout}
 use Rattle.lists.specs.Lists.{RunPromise}
 use Rattle.lists.specs.Logs.{answered, LengthPromise, LogPromise}
-use Rattle.std.specs.Prelude.{Result, Ok, Err}
+use Rattle.std.specs.Prelude.{Result}
 use Rattle.numbers.specs.declared.Refusal.{Refusal}
 use Rattle.numbers.specs.Numbers.{given}
 use Rattle.numbers.proofs.OneAnswer.{one_result_by}

@@ -86,7 +86,7 @@ module _ (L : Layout) (b s : List ℕ) where
   unfolding run_of
   run_ragged f e = pass _ f (stop _ (ne_eqb _ _ e) refl)
 
--- what run_in goes by, but for the step that ends a list
+-- what run goes by, but for the step that ends a list
 pub ruleset step_by_step = (run_unfit, run_ragged, run_begins, list_more, run_end)
 
 -- ---- the accepted part of a list is no longer than the list

@@ -27,7 +27,10 @@ impl From<Ran> for CRan {
     ghost from_gives = { λ ran c. (c.accepted ≡ ran.accepted) × (c.refusal ≡ given ran.ended) };
 
     fn from(ran: Ran) -> CRan {
-        CRan { accepted: ran.accepted, refusal: numbers::number(ran.ended) }
+        CRan {
+            accepted: ran.accepted,
+            refusal: numbers::number(ran.ended),
+        }
     }
 }
 
@@ -37,15 +40,27 @@ pub fn run<R: Room>(bank: &mut [u16], steps: &[u16]) -> Ran
     ensures { RunPromise (layout R.room) bank.old steps.now result.accepted (given result.ended) bank.new }
 {
     if !bank::fit::<R>(bank) {
-        return Ran { accepted: 0, ended: Err(Refusal::Unfit) };
+        return Ran {
+            accepted: 0,
+            ended: Err(Refusal::Unfit),
+        };
     }
     let (steps, []) = steps.as_chunks::<4>() else {
-        return Ran { accepted: 0, ended: Err(Refusal::BadRecord) };
+        return Ran {
+            accepted: 0,
+            ended: Err(Refusal::BadRecord),
+        };
     };
     for (accepted, &[kind, a, b, c]) in steps.iter().enumerate() {
         if let Err(refusal) = group::step::<R>(bank, Asked { kind, a, b, c }) {
-            return Ran { accepted, ended: Err(refusal) };
+            return Ran {
+                accepted,
+                ended: Err(refusal),
+            };
         }
     }
-    Ran { accepted: steps.len(), ended: Ok(()) }
+    Ran {
+        accepted: steps.len(),
+        ended: Ok(()),
+    }
 }

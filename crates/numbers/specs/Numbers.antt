@@ -35,6 +35,16 @@ given (Err r) = number r
 abbrev pub unless : Refusal → Bool → Result (Unit {0}) Refusal
 unless r holds = cond holds (Ok tt) (Err r)
 
+-- the number of each kind of step
+abbrev pub kind_number : Kind → ℕ
+kind_number Broadcast = 1
+kind_number Send = 2
+kind_number Receive = 3
+kind_number Deliver = 4
+kind_number Crash = 5
+kind_number Detect = 6
+kind_number Lose = 7
+
 -- the kind of step that a number stands for
 abbrev pub kind_of : ℕ → Result Kind Refusal
 kind_of k =

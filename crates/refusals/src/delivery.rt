@@ -49,5 +49,10 @@ pub fn delivery_refusal<R: Room>(bank: &[u16], i: u16, m: u16) -> Result<(), Ref
     Refusal::NoMessage.unless(m < count)?;
     moves(bank::word(bank, Bank::UP), i, bank::held::<R>(bank, m), i)?;
     Refusal::NotYet.unless(may_deliver::<R>(bank, i, m))?;
-    undelivered(bank::delivered::<R>(bank, m), i, bank::logged::<R>(bank, i), count)
+    undelivered(
+        bank::delivered::<R>(bank, m),
+        i,
+        bank::logged::<R>(bank, i),
+        count,
+    )
 }

@@ -22,13 +22,29 @@ impl TryFrom<Asked> for Step {
     fn try_from(asked: Asked) -> Result<Step, Refusal> {
         let Asked { kind, a, b, c } = asked;
         match Kind::try_from(kind)? {
-            Kind::Broadcast => Ok(Step::Broadcast { who: a, stamp: b, value: c }),
-            Kind::Send => Ok(Step::Send { from: a, to: b, message: c }),
-            Kind::Receive => Ok(Step::Receive { at: a, from: b, message: c }),
+            Kind::Broadcast => Ok(Step::Broadcast {
+                who: a,
+                stamp: b,
+                value: c,
+            }),
+            Kind::Send => Ok(Step::Send {
+                from: a,
+                to: b,
+                message: c,
+            }),
+            Kind::Receive => Ok(Step::Receive {
+                at: a,
+                from: b,
+                message: c,
+            }),
             Kind::Deliver if c == 0 => Ok(Step::Deliver { at: a, message: b }),
             Kind::Crash if b == 0 && c == 0 => Ok(Step::Crash { who: a }),
             Kind::Detect if c == 0 => Ok(Step::Detect { at: a, of: b }),
-            Kind::Lose => Ok(Step::Lose { from: a, to: b, message: c }),
+            Kind::Lose => Ok(Step::Lose {
+                from: a,
+                to: b,
+                message: c,
+            }),
             _ => Err(Refusal::NoStep),
         }
     }

@@ -2,10 +2,12 @@
 // group's steps and the settler alone.
 ghost use Rattle.std.specs.Prelude.{◌≡◌, ◌+◌, ◌≤◌, ◌<◌, ◌^◌, length};
 ghost use Rattle.numbers.specs.Numbers.{given};
+ghost use Rattle.file.specs.Promises.{asked_of, Apart};
 ghost use Rattle.report.specs.Bench.{state, applied, play_from};
 
 use bank::{Bank, Room};
-use numbers::{Asked, Refusal};
+use file::Asks;
+use numbers::Refusal;
 
 // The bank, and the steps applied to it so far.
 #[derive(Drop)]
@@ -15,20 +17,24 @@ pub(crate) struct Player {
 }
 
 impl Player {
-    // One record: a settle, or a step of the four numbers.
+    // What one record asks for.
     #[tactic(auto, unfolding(crate::specs::Bench::applied))]
-    fn apply(&mut self, asked: Asked) -> Result<(), Refusal>
-        requires { self.old.steps + 65535 < 2 ^ 32 }
+    fn apply(&mut self, asks: Asks) -> Result<(), Refusal>
+        requires room { self.old.steps + 65535 < 2 ^ 32 }
+        requires apart { Apart asks }
         ensures bank_after { state self.new.steps (given result) self.new.bank
-            ≡ applied self.old.steps self.old.bank asked }
+            ≡ applied self.old.steps self.old.bank (asked_of asks) }
         ensures steps_bound { self.new.steps ≤ self.old.steps + 65535 }
     {
-        if asked.kind == file::SETTLE {
-            let settled = settler::settle::<Bank>(&mut self.bank, asked.a)?;
-            self.steps += u32::from(settled.steps);
-        } else {
-            group::step::<Bank>(&mut self.bank, asked)?;
-            self.steps += 1;
+        match asks {
+            Asks::Settle { budget } => {
+                let settled = settler::settle::<Bank>(&mut self.bank, budget)?;
+                self.steps += u32::from(settled.steps);
+            }
+            Asks::Step(asked) => {
+                group::step::<Bank>(&mut self.bank, asked)?;
+                self.steps += 1;
+            }
         }
         Ok(())
     }
@@ -43,7 +49,7 @@ impl Player {
     {
         let mut i = 8;
         while let Some(record) = file::find_at(s, i)? {
-            self.apply(record.asked)?;
+            self.apply(record.asks)?;
             i = record.next;
         }
         Ok(())

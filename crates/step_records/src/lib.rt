@@ -15,12 +15,21 @@ pub fn run_steps(bank: &mut [u16], steps: &[Asked]) -> Ran
     ensures { StepsPromise bank.old steps.now result.accepted (given result.ended) bank.new }
 {
     if !bank::fit::<Bank>(bank) {
-        return Ran { accepted: 0, ended: Err(Refusal::Unfit) };
+        return Ran {
+            accepted: 0,
+            ended: Err(Refusal::Unfit),
+        };
     }
     for (accepted, &asked) in steps.iter().enumerate() {
         if let Err(refusal) = group::step::<Bank>(bank, asked) {
-            return Ran { accepted, ended: Err(refusal) };
+            return Ran {
+                accepted,
+                ended: Err(refusal),
+            };
         }
     }
-    Ran { accepted: steps.len(), ended: Ok(()) }
+    Ran {
+        accepted: steps.len(),
+        ended: Ok(()),
+    }
 }

@@ -4,12 +4,12 @@
 
 ghost use Rattle.step_records.specs.Records.{StepsPromise};
 
-use lists::Ran;
-use step_records::Step;
+use lists::CRan;
+use numbers::Asked;
 
 #[unsafe(no_mangle)]
-pub extern "C" fn run_steps(bank: &mut [u16], steps: &[Step]) -> Ran
+pub extern "C" fn run_steps(bank: &mut [u16], steps: &[Asked]) -> CRan
     ensures { StepsPromise bank.old steps.now result.accepted result.refusal bank.new }
 {
-    step_records::run_steps(bank, steps)
+    step_records::run_steps(bank, steps).into()
 }

@@ -9,27 +9,43 @@ ghost use Rattle.lists.specs.Lists.{RunPromise};
 ghost use Rattle.lists.specs.Logs.{LengthPromise};
 ghost use Rattle.word_face.specs.LogCopy.{Copied, LogCopyPromise};
 
-use lists::{LogLength, Ran};
+use bank::Bank;
+use lists::CRan;
+use numbers::Asked;
+
+// A log's length, or 0 beside the number that refuses the question.
+#[repr(C)]
+#[derive(Clone, Copy, Debug, PartialEq, Eq)]
+pub struct LogLength {
+    pub refusal: u16,
+    pub length: u16,
+}
 
 #[unsafe(no_mangle)]
-pub extern "C" fn words_run(bank: &mut [u16], steps: &[u16]) -> Ran
+pub extern "C" fn words_run(bank: &mut [u16], steps: &[u16]) -> CRan
     ensures { RunPromise paper bank.old steps.now result.accepted result.refusal bank.new }
 {
-    lists::run(bank, steps)
+    lists::run::<Bank>(bank, steps).into()
 }
 
 #[unsafe(no_mangle)]
 pub extern "C" fn words_refusal(bank: &[u16], kind: u16, a: u16, b: u16, c: u16) -> u16
     ensures { RefusalPromise paper bank.now (ask kind a b c) result }
 {
-    refusals::refusal(bank, kind, a, b, c)
+    numbers::number(refusals::refusal::<Bank>(bank, Asked { kind, a, b, c }))
 }
 
 #[unsafe(no_mangle)]
 pub extern "C" fn words_log_length(bank: &[u16], who: u16) -> LogLength
     ensures { LengthPromise paper bank.now who result.refusal result.length }
 {
-    lists::log_length(bank, who)
+    match lists::log_length::<Bank>(bank, who) {
+        Ok(length) => LogLength { refusal: 0, length },
+        Err(refusal) => LogLength {
+            refusal: refusal.into(),
+            length: 0,
+        },
+    }
 }
 
 // Copies the used part of the log into the lent buffer, as far as it reaches; answers that part's length.
@@ -37,7 +53,7 @@ pub extern "C" fn words_log_length(bank: &[u16], who: u16) -> LogLength
 pub extern "C" fn words_log(bank: &[u16], who: u16, out: &mut [u16]) -> usize
     ensures { LogCopyPromise bank.now who out.old result out.new }
 {
-    let log = lists::log(bank, who);
+    let log = lists::log::<Bank>(bank, who);
     copy(log, out);
     log.len()
 }

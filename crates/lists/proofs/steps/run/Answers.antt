@@ -1,4 +1,5 @@
--- run: a refused step ends the list's answer and the loop. The other goals follow from the laws that the function names.
+-- run: a refused step ends the list's answer and the loop. The other goals follow from the laws that the function
+-- names.
 use Rattle.std.proofs.Common.{sym, ◌∙◌, arith}
 use Rattle.numbers.proofs.OneAnswer.{refused_above}
 use Rattle.lists.proofs.StepByStep.{list_stop}
