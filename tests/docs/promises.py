@@ -230,6 +230,7 @@ def public_calls():
     for path in sorted(Path("crates").glob("*/src/**/*.rt")):
         text, crate = code(path), path.parts[1]
         impls = list(implemented(text))
+        must(len(impls) == len(re.findall(r"(?m)^ *impl\b", text)), f"an impl of {path} is not understood")
         for found in re.finditer(head, text):
             around = [impl for impl in impls if impl[2] <= found.start() <= impl[3]]
             trait, name, start, end = around[0] if around else (None, None, 0, 0)
