@@ -198,8 +198,8 @@ def look_at_entries(entries):
 
 def names_of(parameters):
     """Without their types, whose own parameters are taken out before what is left is parted."""
-    while "<" in parameters:
-        parameters = re.sub(r"<[^<>]*>", "", parameters)
+    while (left := re.sub(r"<[^<>]*>", "", parameters)) != parameters:
+        parameters = left
     return [name for name in (each.split(":")[0].strip() for each in parameters.split(",")) if name]
 
 
@@ -222,7 +222,7 @@ def public_calls():
     """Of each public function: its crate, how the page writes it, and its contract.
 
     What is taken for the contract ends where the body begins, or the next function, where the body closes on its line.
-    A trait's function of a type that others see is public too; its contract is what the `impl` says of it, as
+    A trait's function of a type that others see is public too; its contract has what the `impl` says of it, as
     `from_gives` of `from`.
     """
     head = r'\b(pub )?(?:const |unsafe |extern "C" )*fn (\w+)(?:<([^>]*)>)?\(((?:[^()]|\([^()]*\))*)\)'
@@ -234,12 +234,12 @@ def public_calls():
         for found in re.finditer(head, text):
             around = [impl for impl in impls if impl[2] <= found.start() <= impl[3]]
             trait, name, start, end = around[0] if around else (None, None, 0, 0)
-            if trait and is_seen(crate, name):
-                contract = " ".join(re.findall(rf"(?s)ghost {found[2]}_\w+ = (\{{.*?\}});", text[start:end]))
-            elif found[1]:
-                contract = re.split(after, text[found.end() :], maxsplit=1)[0]
-            else:
+            if not (is_seen(crate, name) if trait else found[1]):
                 continue
+            contract = re.split(after, text[found.end() :], maxsplit=1)[0]
+            if trait:
+                of_trait = re.findall(rf"(?s)ghost {found[2]}_\w+ = (\{{.*?\}});", text[start:end])
+                contract = " ".join([*of_trait, contract])
             call = f"{name}::{found[2]}" if name else found[2]
             types = f"::<{', '.join(names_of(found[3]))}>" if found[3] else ""
             yield crate, f"{call}{types}({', '.join(names_of(found[4]))})", in_one_line(contract)
