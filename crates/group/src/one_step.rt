@@ -2,7 +2,7 @@
 ghost use Rattle.std.specs.Prelude.{◌≡◌};
 ghost use Rattle.numbers.specs.Numbers.{given};
 ghost use Rattle.bank.specs.Layout.{layout};
-ghost use Rattle.refusals.specs.Asking.{step_of};
+ghost use Rattle.refusals.specs.Asking.{meant};
 ghost use Rattle.group.specs.Promises.{StepPromise, TakePromise};
 
 use crate::steps;
@@ -23,7 +23,7 @@ pub fn step<R: Room>(bank: &mut [u16], asked: Asked) -> Result<(), Refusal>
 // A step that is known by its kind.
 #[tactic(auto, using(crate::proofs::Taking::step_allowed), unfolding(crate::specs::Promises::taken))]
 pub fn take<R: Room>(bank: &mut [u16], step: Step) -> Result<(), Refusal>
-    ensures { TakePromise (layout R.room) bank.old (step_of step) (given result) bank.new }
+    ensures { TakePromise (layout R.room) bank.old (meant step) (given result) bank.new }
 {
     refusals::of_step::<R>(bank, step)?;
     steps::apply::<R>(bank, step);

@@ -4,7 +4,7 @@ ghost use Rattle.std.specs.Prelude.{◌≡◌, ◌<◌, length};
 ghost use Rattle.std.specs.Fn.{FnOnceReturnsAtMut};
 ghost use Rattle.bank.specs.Layout.{layout, size, record_size, record_words, with_record};
 ghost use Rattle.refusals.specs.Step.{broadcast, send, receive, deliver, crash, detect, lose};
-ghost use Rattle.refusals.specs.Asking.{step_of};
+ghost use Rattle.refusals.specs.Asking.{meant};
 ghost use Rattle.refusals.specs.Promises.{Allowed};
 ghost use Rattle.group.specs.Promises.{after};
 
@@ -87,8 +87,8 @@ fn lose<R: Room>(bank: &mut [u16], from: u16, to: u16, m: u16)
 
 // A step, once nothing refuses it.
 pub(crate) fn apply<R: Room>(bank: &mut [u16], step: Step)
-    requires { Allowed (layout R.room) bank.old (step_of step) }
-    ensures { bank.new ≡ after (layout R.room) bank.old (step_of step) }
+    requires { Allowed (layout R.room) bank.old (meant step) }
+    ensures { bank.new ≡ after (layout R.room) bank.old (meant step) }
 {
     match step {
         Step::Broadcast { who, stamp, value } => broadcast::<R>(bank, who, stamp, value),

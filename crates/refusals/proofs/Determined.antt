@@ -12,10 +12,10 @@ use Rattle.sets.proofs.Tests.{one_value}
 use Rattle.bank.specs.Layout.{Layout}
 use Rattle.refusals.specs.declared.step.Step.{Step as Taken}
 use Rattle.refusals.specs.Step.{Step, Asked, asked}
-use Rattle.refusals.specs.Asking.{step_of, Decodes, Asks}
+use Rattle.refusals.specs.Asking.{meant, Decodes, Asks}
 use Rattle.refusals.specs.Delivery.{enough}
 use Rattle.refusals.specs.Promises.{RefusalPromise}
-use Rattle.refusals.proofs.SameSteps.{one_step}
+use Rattle.refusals.proofs.SameSteps.{one_meaning}
 
 pub refusal_determined : (L : Layout) (b : List ℕ) (x : Asked) {r s : ℕ} → RefusalPromise L b x r
     → RefusalPromise L b x s → r ≡ s
@@ -28,9 +28,9 @@ enough_determined k n trusted received e f = one_value e f
 pub allowed_determined : (L : Layout) (b : List ℕ) (x : Asked) {r s : Result Taken Refusal}
     → RefusalPromise L b x (given r) → Asks x r → RefusalPromise L b x (given s) → Asks x s → r ≡ s
 allowed_determined L b x {r} {s} e p f q =
-    one_result_by r s (one_value e f) (λ t u i j. one_step t u (same (sym (asked_for t i p) ∙ asked_for u j q)))
+    one_result_by r s (one_value e f) (λ t u i j. one_meaning t u (same (sym (asked_for t i p) ∙ asked_for u j q)))
   where
-    asked_for : {r : Result Taken Refusal} (t : Taken) → r ≡ Ok t → Asks x r → asked x ≡ some (step_of t)
+    asked_for : {r : Result Taken Refusal} (t : Taken) → r ≡ Ok t → Asks x r → asked x ≡ some (meant t)
     asked_for t i p = rw i at p
 
     same : {s t : Step} → some s ≡ some t → s ≡ t
@@ -46,7 +46,7 @@ decoded_determined x {r} {s} = go r s
     none_is_some e = cc
 
     go : (r s : Result Taken Refusal) → Decodes x r → Decodes x s → r ≡ s
-    go (Ok t) (Ok u) p q = ap Ok (one_step t u (same (sym p ∙ q)))
+    go (Ok t) (Ok u) p q = ap Ok (one_meaning t u (same (sym p ∙ q)))
     go (Ok t) (Err e) p q = none_is_some (sym q.0 ∙ p)
     go (Err e) (Ok u) p q = none_is_some (sym p.0 ∙ q)
     go (Err e) (Err f) p q = ap Err (p.1 ∙ sym q.1)

@@ -2,7 +2,7 @@
 ghost use Rattle.std.specs.Prelude.{◌≡◌};
 ghost use Rattle.numbers.specs.Numbers.{given};
 ghost use Rattle.bank.specs.Layout.{layout};
-ghost use Rattle.refusals.specs.Asking.{step_of, Asks};
+ghost use Rattle.refusals.specs.Asking.{meant, Asks};
 ghost use Rattle.refusals.specs.Promises.{RefusalPromise, step_refusal};
 
 use crate::kinds::of_fit;
@@ -13,7 +13,7 @@ use numbers::{Asked, Refusal};
 // Whether the step is allowed, or what refuses it.
 #[tactic(auto, unfolding(crate::specs::Promises::step_refusal))]
 pub fn of_step<R: Room>(bank: &[u16], step: Step) -> Result<(), Refusal>
-    ensures { given result ≡ step_refusal (layout R.room) bank.now (step_of step) }
+    ensures { given result ≡ step_refusal (layout R.room) bank.now (meant step) }
 {
     Refusal::Unfit.unless(bank::fit::<R>(bank))?;
     of_fit::<R>(bank, step)

@@ -3,7 +3,7 @@ ghost use Rattle.std.specs.Prelude.{◌≡◌};
 ghost use Rattle.numbers.specs.Numbers.{given};
 ghost use Rattle.bank.specs.Layout.{paper, layout, words};
 ghost use Rattle.refusals.specs.Step.{broadcast, send, receive, crash, detect, lose};
-ghost use Rattle.refusals.specs.Asking.{step_of};
+ghost use Rattle.refusals.specs.Asking.{meant};
 ghost use Rattle.refusals.specs.Refusals;
 
 use crate::beginnings::{actor, ends, moves};
@@ -67,7 +67,7 @@ fn of_lose<R: Room>(bank: &[u16], from: u16, to: u16, m: u16) -> Result<(), Refu
 
 // What refuses a step of a fit bank.
 pub(crate) fn of_fit<R: Room>(bank: &[u16], step: Step) -> Result<(), Refusal>
-    ensures { given result ≡ Refusals.refusal (layout R.room) (words (layout R.room) bank.now) (step_of step) }
+    ensures { given result ≡ Refusals.refusal (layout R.room) (words (layout R.room) bank.now) (meant step) }
 {
     match step {
         Step::Broadcast { who, stamp, value } => of_broadcast::<R>(bank, who, stamp, value),

@@ -4,7 +4,7 @@ ghost use Rattle.std.specs.Prelude.{◌≡◌, map, ◌<◌};
 ghost use Rattle.bank.specs.Place.{N, count, message};
 ghost use Rattle.bank.specs.Layout.{layout, words};
 ghost use Rattle.refusals.specs.Step.{detect, deliver};
-ghost use Rattle.refusals.specs.Asking.{taken};
+ghost use Rattle.refusals.specs.Asking.{coded};
 ghost use Rattle.settler.specs.Candidates;
 ghost use Rattle.settler.specs.Candidates.{below, each, pairs, of_message, first_of, free};
 ghost use Rattle.settler.specs.Moves.{next_of, copy_step, copy_set};
@@ -33,7 +33,7 @@ impl Copies {
 
     // What controller i does with the one to, or from, controller j.
     fn step(self, message: u16, i: u16, j: u16) -> Step
-        ensures { result ≡ taken (copy_step self message i j) }
+        ensures { result ≡ coded (copy_step self message i j) }
     {
         match self {
             Copies::ToSend => Step::Send {
