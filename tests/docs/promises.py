@@ -67,7 +67,7 @@ def antt_names(text):
 
 
 def rt_names(text):
-    return set(re.findall(r'(?m)^ *(?:pub(?:\(\w+\))? )?(?:extern "C" )?(?:fn|struct|enum|const|mod) (\w+)', text))
+    return set(re.findall(r'(?m)^ *(?:pub(?:\(\w+\))? )?(?:extern "C" )?(?:fn|struct|enum|trait|const|mod) (\w+)', text))
 
 
 def rs_names(text):
@@ -168,7 +168,7 @@ def look_at(number, text, filed):
 
 
 def look_at_texts(entries, texts):
-    filed, alone = {entry.title.split("(")[0] for entry in entries if entry.section == "call"}, []
+    filed, alone = {re.split(r"::<|\(", entry.title)[0] for entry in entries if entry.section == "call"}, []
     for number, entry, field, text in texts:
         if field == "sentence":
             look_at(number, text.replace("`", ""), filed)
@@ -196,18 +196,58 @@ def look_at_entries(entries):
         must(edit in named, f"no word of the edit '{edit}'")
 
 
+def names_of(parameters):
+    """Without their types, whose own parameters are taken out before what is left is parted."""
+    while (left := re.sub(r"<[^<>]*>", "", parameters)) != parameters:
+        parameters = left
+    return [name for name in (each.split(":")[0].strip() for each in parameters.split(",")) if name]
+
+
+def implemented(text):
+    """Of each `impl`: the trait, if it is one's, the type, and where it begins and ends."""
+    head = r"(?m)^impl(?:<.*?>)? (?:(\w+)(?:<.*>)? for )?(\w+)(?:<.*>)? \{$"
+    for found in re.finditer(head, text):
+        yield found[1], found[2], found.start(), text.index("\n}", found.end())
+
+
+@cache
+def is_seen(crate, name):
+    """Whether others see the type: the crate has it as a public one, or has it not at all."""
+    source = "".join(code(path) for path in Path("crates", crate, "src").glob("**/*.rt"))
+    found = re.search(rf"(?m)^(pub )?(?:pub\(\w+\) )?(?:struct|enum|type) {name}\b", source)
+    return not found or found[1]
+
+
 def public_calls():
     """Of each public function: its crate, how the page writes it, and its contract.
 
     What is taken for the contract ends where the body begins, or the next function, where the body closes on its line.
+    A trait's function of a type that others see is public too; its contract has what the `impl` says of it, as
+    `from_gives` of `from`.
     """
-    head = r'\bpub (?:const |unsafe |extern "C" )*fn (\w+)(?:<[^>]*>)?\(([^)]*)\)'
+    head = r'\b(pub )?(?:const |unsafe |extern "C" )*fn (\w+)(?:<([^>]*)>)?\(((?:[^()]|\([^()]*\))*)\)'
     after = r"(?m)^ *\{|\{ *$|\bfn "
     for path in sorted(Path("crates").glob("*/src/**/*.rt")):
-        for found in re.finditer(head, code(path)):
-            names = [argument.split(":")[0].strip() for argument in found[2].split(",")]
-            contract = re.split(after, code(path)[found.end() :], maxsplit=1)[0]
-            yield path.parts[1], f"{found[1]}({', '.join(filter(None, names))})", in_one_line(contract)
+        text, crate = code(path), path.parts[1]
+        impls = list(implemented(text))
+        must(len(impls) == len(re.findall(r"(?m)^ *impl\b", text)), f"an impl of {path} is not understood")
+        for found in re.finditer(head, text):
+            around = [impl for impl in impls if impl[2] <= found.start() <= impl[3]]
+            trait, name, start, end = around[0] if around else (None, None, 0, 0)
+            if not (is_seen(crate, name) if trait else found[1]):
+                continue
+            contract = re.split(after, text[found.end() :], maxsplit=1)[0]
+            if trait:
+                of_trait = re.findall(rf"(?s)ghost {found[2]}_\w+ = (\{{.*?\}});", text[start:end])
+                contract = " ".join([*of_trait, contract])
+            call = f"{name}::{found[2]}" if name else found[2]
+            types = f"::<{', '.join(names_of(found[3]))}>" if found[3] else ""
+            yield crate, f"{call}{types}({', '.join(names_of(found[4]))})", in_one_line(contract)
+
+
+def for_c(contract):
+    """A contract as C has it: with `CRan` for `Ran`, the number of whose `ended` it has, as its `from_gives` says."""
+    return contract.replace("-> Ran ", "-> CRan ").replace("(given result.ended)", "result.refusal")
 
 
 def look_at_calls(entries):
@@ -217,15 +257,16 @@ def look_at_calls(entries):
     """
     sections = {entry.title: entry for entry in entries if entry.section == "call"}
     calls = list(public_calls())
+    exports = [(f"{crate}_c", call, for_c(contract)) for crate, call, contract in calls]
     for crate, call, contract in calls:
         if crate.endswith("_c"):
-            must((crate[:-2], call, contract) in calls, f"{call} of {crate} is not that of {crate[:-2]}")
+            must((crate, call, contract) in exports, f"{call} of {crate} is not that of {crate[:-2]}")
             continue
         titles = [title for title in sections if re.fullmatch(rf"({crate}::(\w+::)*)?{re.escape(call)}", title)]
         must(len(titles) == 1, f"{len(titles)} sections for {call} of {crate}")
         for entry in map(sections.pop, titles):
-            promise = in_one_line((entry.names("promise") or ["?"])[0])
-            must(f" {promise} " in contract, f"line {entry.line}: {call} does not promise '{promise}'")
+            for promise in map(in_one_line, entry.names("promise") or ["?"]):
+                must(f" {promise} " in contract, f"line {entry.line}: {call} does not promise '{promise}'")
             must("requires" not in contract, f"line {entry.line}: {call} requires something")
             must(len(entry.names("shuts out")) >= 2, f"line {entry.line}: no two edits for {call}")
     for title, entry in sections.items():

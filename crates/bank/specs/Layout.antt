@@ -16,7 +16,7 @@ paper = record { controllers = 16; messages = 32 }
 abbrev pub rack : Layout
 rack = record { controllers = 4; messages = 8 }
 
--- the code tells the two apart by a flag, `room`
+-- by a size's `room`, which tells the two apart
 abbrev pub layout : Bool → Layout
 layout false = paper
 layout true = rack

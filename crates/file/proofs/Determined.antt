@@ -35,7 +35,8 @@ given_read (Err r) h = ap Err (named_number r)
 pub word_determined : (s : List ℕ) (i : ℕ) {v w : ℕ} → WordPromise s i v → WordPromise s i w → v ≡ w
 word_determined s i e f = e ∙ sym f
 
-pub find_determined : (s : List ℕ) (i : ℕ) {a b : Result (Option Record) Refusal} → FindPromise s i a → FindPromise s i b → a ≡ b
+pub find_determined : (s : List ℕ) (i : ℕ) {a b : Result (Option Record) Refusal} → FindPromise s i a
+    → FindPromise s i b → a ≡ b
 find_determined s i {a} {b} e f =
     sym (given_read a e.1) ∙ ap given (e.0 ∙ sym f.0) ∙ given_read b f.1
 

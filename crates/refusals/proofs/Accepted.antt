@@ -2,11 +2,13 @@
 use mathlib.Core.Path.{◌≡◌, refl, subst}
 use mathlib.Core.Bool.{Bool, true, false, cond}
 use mathlib.Core.List.{List}
-use mathlib.Core.Option.{some}
+use mathlib.Core.Option.{none, some}
 use Prim.Native.Nat.{ℕ}
 use native.Mathlib.Omega.{arith}
+use borrow.Author.Tests.{ne_eqb}
 use Rattle.bank.specs.Layout.{Layout}
 use Rattle.bank.specs.Fit.{Fit, fit}
+use Rattle.bank.proofs.Rules.{stop}
 use Rattle.bank.proofs.Fitness.{fit_facts}
 use Rattle.refusals.specs.Step.{Asked, Step, asked}
 use Rattle.refusals.specs.Promises.{Allowed, asked_refusal, refusal_of}
@@ -35,3 +37,12 @@ pub allowed_step : (L : Layout) (b : List ℕ) (x : Asked) (s : Step) → refusa
 allowed_step L b x s e q =
     free_step L b s (not_refused_fit L b x e)
     (subst (λ o. asked_refusal L b o ≡ 0) q (not_refused L b x e))
+
+-- a kind that is none of the seven asks for nothing
+pub not_asked : (x : Asked) → (x.kind ≡ 1 → ⊥) → (x.kind ≡ 2 → ⊥) → (x.kind ≡ 3 → ⊥) → (x.kind ≡ 4 → ⊥)
+    → (x.kind ≡ 5 → ⊥) → (x.kind ≡ 6 → ⊥) → (x.kind ≡ 7 → ⊥) → asked x ≡ none
+not_asked x n1 n2 n3 n4 n5 n6 n7 =
+    stop _ (ne_eqb _ _ n1)
+    (stop _ (ne_eqb _ _ n2)
+    (stop _ (ne_eqb _ _ n3)
+    (stop _ (ne_eqb _ _ n4) (stop _ (ne_eqb _ _ n5) (stop _ (ne_eqb _ _ n6) (stop _ (ne_eqb _ _ n7) refl))))))

@@ -3,8 +3,8 @@ use Prim.Native.Nat.{ℕ}
 use mathlib.Core.Path.{◌≡◌, sym, ◌∙◌}
 use mathlib.Core.Bool.{Bool}
 use mathlib.Core.List.{List}
-use mathlib.Core.Option.{some}
-use Rattle.std.specs.Prelude.{Result, Ok}
+use mathlib.Core.Option.{Option, none, some}
+use Rattle.std.specs.Prelude.{Result, Ok, Err}
 use Rattle.numbers.specs.declared.Refusal.{Refusal}
 use Rattle.numbers.specs.Numbers.{given}
 use Rattle.numbers.proofs.OneAnswer.{one_result_by}
@@ -12,7 +12,7 @@ use Rattle.sets.proofs.Tests.{one_value}
 use Rattle.bank.specs.Layout.{Layout}
 use Rattle.refusals.specs.declared.step.Step.{Step as Taken}
 use Rattle.refusals.specs.Step.{Step, Asked, asked}
-use Rattle.refusals.specs.Asking.{meant, Asks}
+use Rattle.refusals.specs.Asking.{meant, Decodes, Asks}
 use Rattle.refusals.specs.Delivery.{enough}
 use Rattle.refusals.specs.Promises.{RefusalPromise}
 use Rattle.refusals.proofs.SameSteps.{one_meaning}
@@ -35,3 +35,18 @@ allowed_determined L b x {r} {s} e p f q =
 
     same : {s t : Step} → some s ≡ some t → s ≡ t
     same e = cc
+
+pub decoded_determined : (x : Asked) {r s : Result Taken Refusal} → Decodes x r → Decodes x s → r ≡ s
+decoded_determined x {r} {s} = go r s
+  where
+    same : {s t : Step} → some s ≡ some t → s ≡ t
+    same e = cc
+
+    none_is_some : {A : Type 0} {s : Step} → none ≡ some s → A
+    none_is_some e = cc
+
+    go : (r s : Result Taken Refusal) → Decodes x r → Decodes x s → r ≡ s
+    go (Ok t) (Ok u) p q = ap Ok (one_meaning t u (same (sym p ∙ q)))
+    go (Ok t) (Err e) p q = none_is_some (sym q.0 ∙ p)
+    go (Err e) (Ok u) p q = none_is_some (sym p.0 ∙ q)
+    go (Err e) (Err f) p q = ap Err (p.1 ∙ sym q.1)
