@@ -205,25 +205,25 @@ impl Room for Rack {
 pub fn view_at(i: u16) -> usize
     ensures { result ≡ address paper (view i) }
 {
-    Bank::VIEWS + i as usize
+    Bank::VIEWS + usize::from(i)
 }
 
 pub fn length_at<R: Room>(i: u16) -> usize
     ensures { result ≡ address (layout R.room) (log_length i) }
 {
-    R::LENGTHS + i as usize
+    R::LENGTHS + usize::from(i)
 }
 
 pub fn log_at<R: Room>(i: u16, k: u16) -> usize
     ensures { result ≡ address (layout R.room) (log i k) }
 {
-    (R::LOGS + (i as usize) * R::LOG) + k as usize
+    R::LOGS + usize::from(i) * R::LOG + usize::from(k)
 }
 
 pub fn record_at<R: Room>(m: u16) -> usize
     ensures { result ≡ record_at (layout R.room) m }
 {
-    R::RECORDS + (m as usize) * R::RECORD
+    R::RECORDS + usize::from(m) * R::RECORD
 }
 
 pub fn record_end<R: Room>(m: u16) -> usize
@@ -237,17 +237,17 @@ pub fn record_end<R: Room>(m: u16) -> usize
 pub fn acked_at(i: u16) -> usize
     ensures { result ≡ offset paper (acked i) }
 {
-    Bank::ACKED + i as usize
+    Bank::ACKED + usize::from(i)
 }
 
 pub fn unsent_at<R: Room>(i: u16) -> usize
     ensures { result ≡ offset (layout R.room) (unsent i) }
 {
-    R::UNSENT + i as usize
+    R::UNSENT + usize::from(i)
 }
 
 pub fn flight_at<R: Room>(i: u16) -> usize
     ensures { result ≡ offset (layout R.room) (in_flight i) }
 {
-    R::IN_FLIGHT + i as usize
+    R::IN_FLIGHT + usize::from(i)
 }

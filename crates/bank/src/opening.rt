@@ -38,7 +38,7 @@ fn write_opening<R: Room>(bank: &mut [u16], n: u16, mode: u16)
     open_views::<R>(bank, n);
 }
 
-// Opens a group of n controllers in a bank of that size.
+// Opens a group of n controllers in a bank of that size. The mode is any number, since what is no mode is to be refused.
 #[tactic(auto, unfolding(crate::specs::Opening::open_of))]
 pub fn open<R: Room>(bank: &mut [u16], n: u16, mode: u16) -> Result<(), Refusal>
     ensures { OpenPromise (layout R.room) bank.old n mode (given result) bank.new }

@@ -1,5 +1,6 @@
 // What each step that nothing refuses writes. Whatever it writes in a record goes to that one record, lent from the
-// middle of the bank.
+// middle of the bank. That the step is allowed is a clause of each, and no type: it is a fact of the bank and the step
+// together, and a value that held both would keep the bank lent.
 ghost use Rattle.std.specs.Prelude.{◌≡◌, ◌<◌, length};
 ghost use Rattle.std.specs.Fn.{FnOnceReturnsAtMut};
 ghost use Rattle.bank.specs.Layout.{layout, size, record_size, record_words, with_record};
@@ -85,7 +86,7 @@ fn lose<R: Room>(bank: &mut [u16], from: u16, to: u16, m: u16)
     in_record::<R, _>(bank, m, |record| record::lose::<R>(record, from, to));
 }
 
-// A step, once nothing refuses it.
+// A step, once nothing refuses it. A match, and no table of functions: each kind has numbers of its own.
 pub(crate) fn apply<R: Room>(bank: &mut [u16], step: Step)
     requires { Allowed (layout R.room) bank.old (meant step) }
     ensures { bank.new ≡ after (layout R.room) bank.old (meant step) }

@@ -1,6 +1,7 @@
 // What the C face of the station's scheduler does: opening, one step, the settler and the tally, on numbers and a byte
 // slice that stands for the bank. Each call takes the bytes apart and asks the crate below; the bytes are written where
-// nothing is refused. Rattle's crates rest on it; C programs have the same calls from `loargwen_c`.
+// nothing is refused. Rattle's crates rest on it; C programs have the same calls from `loargwen_c`, and so its answers
+// are C's: a refusal's number, alone or first in a struct.
 #![tactic(auto)]
 
 mod answers;

@@ -5,7 +5,8 @@
 ghost use Rattle.std.specs.Prelude.{◌≡◌};
 ghost use Rattle.numbers.specs.Numbers;
 
-// The four numbers that ask for a step: its kind, and what the kind uses.
+// The four numbers that ask for a step: its kind, and what the kind uses. They are any four, since what asks for no step
+// is to be refused; C programs hand them over as they stand.
 #[repr(C)]
 #[derive(Clone, Copy, Debug, PartialEq, Eq)]
 pub struct Asked {

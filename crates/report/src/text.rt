@@ -47,7 +47,7 @@ impl<'a> Printer<'a> {
         self.put_all(digits.format(x).as_bytes());
     }
 
-    // A word in four hex digits.
+    // A word in four hex digits, one by one: std prints them through `write!` alone.
     fn hex(&mut self, w: u16)
         ensures { Prints self.old (Text.hex w) self.new }
     {
