@@ -68,10 +68,12 @@ pub record Change (L : Layout) (change : Record → List (Write Field)) : Type 0
   pub rests : (g h : Record) → ((f : Field) → FieldIn L f → g f ≡ h f) → change g ≡ change h
   pub within : (r : Record) → Below (offset L) (record_size L) (change r)
 
-module _ (L : Layout) (b : List ℕ) (m : ℕ) (whole : length b ≡ size L) (there : m < L.messages) where
-  inside : record_at L m + record_size L ≤ length b
-  inside = rw whole (record_inside L m there)
+-- a record that is there lies in the bank
+pub record-within : (L : Layout) (b : List ℕ) (m : ℕ) → length b ≡ size L → m < L.messages
+    → record_at L m + record_size L ≤ length b
+record-within L b m whole there = rw whole (record_inside L m there)
 
+module _ (L : Layout) (b : List ℕ) (m : ℕ) (inside : record_at L m + record_size L ≤ length b) where
   -- written by itself and put back: the change is in the bank
   pub lent_whole : {left b' : List ℕ} (change : Record → List (Write Field)) → Change L change
       → b' ≡ with_record L b m left → left ≡ changed L change (record_words L b m)

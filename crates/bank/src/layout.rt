@@ -1,11 +1,13 @@
-// The two sizes of bank, and where each word of either stands. Nothing else knows the numbers of a size.
+// The two sizes of bank, and where each word of either stands. Nothing else knows the numbers of a size, but the C face
+// how many bytes a bank has.
 ghost use Rattle.std.specs.Prelude.{◌≡◌, ◌+◌, ℕ, Bool, true, false, refl};
 ghost use Rattle.bank.specs.Place.{view, log_length, log, acked, unsent, in_flight};
 ghost use Rattle.bank.specs.Layout;
 ghost use Rattle.bank.specs.Layout.{paper, layout, record_size, record_at, offset, address};
 ghost use Rattle.bank.specs.Rooms.{Laid};
 
-// A size of bank, as a type: whoever works on both takes it as a parameter.
+// A size of bank, as a type: whoever works on both takes it as a parameter. Each number stands twice, for the code and
+// for clauses, which read a constant by its ghost; the check holds the two to be equal.
 pub trait Room {
     // By which the definitions tell the two sizes apart.
     ghost room: { Bool };

@@ -38,17 +38,14 @@ fn write_opening<R: Room>(bank: &mut [u16], n: u16, mode: u16)
     open_views::<R>(bank, n);
 }
 
-// Opens a group of n controllers in a bank of that size. The mode is any number, since what is no mode is to be refused.
+// Opens a group of n controllers in a bank of that size. The mode is any number, since what is no mode is to be
+// refused.
 #[tactic(auto, unfolding(crate::specs::Opening::open_of))]
 pub fn open<R: Room>(bank: &mut [u16], n: u16, mode: u16) -> Result<(), Refusal>
     ensures { OpenPromise (layout R.room) bank.old n mode (given result) bank.new }
 {
-    if bank.len() != R::WORDS {
-        return Err(Refusal::Unfit);
-    }
-    if !is_size::<R>(n) {
-        return Err(Refusal::BadSize);
-    }
+    Refusal::Unfit.unless(bank.len() == R::WORDS)?;
+    Refusal::BadSize.unless(is_size::<R>(n))?;
     Mode::try_from(mode)?;
     write_opening::<R>(bank, n, mode);
     Ok(())

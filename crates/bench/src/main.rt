@@ -26,7 +26,8 @@ fn read_full<R: Read>(input: &mut R, buf: &mut [u8]) -> io::Result<usize>
 }
 
 fn main(rt: HostRuntime) -> io::Result<()> {
-    // on the stack, since nothing here takes heap; one byte more than a file may have, so that too long an input is seen
+    // on the stack, since nothing here takes heap; one byte more than a file may have, so that too long an input is
+    // seen
     let mut input = [0u8; 65537];
     let n = read_full(&mut rt.stdin(), &mut input)?;
     // no report is longer, so that none is cut

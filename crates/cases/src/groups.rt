@@ -1,8 +1,7 @@
 // The groups that the cases begin with. No refusal is looked at here: what is printed of a bank afterwards shows it.
 use crate::kinds::broadcast;
 use bank::{Bank, Room};
-use numbers::Mode;
-use refusals::Step;
+use numbers::{Asked, Mode};
 
 // A bank of n controllers.
 pub(crate) fn opened(n: u16, mode: Mode) -> [u16; Bank::WORDS] {
@@ -12,10 +11,10 @@ pub(crate) fn opened(n: u16, mode: Mode) -> [u16; Bank::WORDS] {
 }
 
 // A bank of n controllers in all-ack mode after some steps.
-pub(crate) fn after(n: u16, steps: &[Step]) -> [u16; Bank::WORDS] {
+pub(crate) fn after(n: u16, steps: &[Asked]) -> [u16; Bank::WORDS] {
     let mut bank = opened(n, Mode::AllAck);
-    for &step in steps {
-        let _ = group::take::<Bank>(&mut bank, step);
+    for &asked in steps {
+        let _ = group::step::<Bank>(&mut bank, asked);
     }
     bank
 }
@@ -33,8 +32,8 @@ pub(crate) fn after_broadcasts(times: usize) -> [u16; Bank::WORDS] {
         broadcast(15, 65535, 7),
         broadcast(7, 9600, 8),
     ];
-    for &step in eight.iter().cycle().take(times) {
-        let _ = group::take::<Bank>(&mut bank, step);
+    for &asked in eight.iter().cycle().take(times) {
+        let _ = group::step::<Bank>(&mut bank, asked);
     }
     bank
 }

@@ -11,7 +11,7 @@ use std::io::Print;
 
 fn say_ran(rt: &impl Print, what: &str, ran: Ran) -> io::Result<()> {
     println!(rt; "{what}: accepted {}", ran.accepted)?;
-    println!(rt; "{what}: refusal {}", numbers::number(ran.ended))
+    println!(rt; "{what}: refusal {}", numbers::given(ran.ended))
 }
 
 fn ragged_lists(rt: &impl Print) -> io::Result<()> {
@@ -41,7 +41,7 @@ fn lists(rt: &impl Print) -> io::Result<()> {
         "list with a send twice",
         lists::run::<Bank>(&mut bank, &stopped),
     )?;
-    say::taken(
+    say::steps(
         rt,
         &mut bank,
         &[

@@ -1,6 +1,6 @@
 // One step: each refusal number, by each kind that can give it.
 use crate::groups::{after, after_broadcasts, opened};
-use crate::kinds::{broadcast, crash, deliver, detect, lose, receive, send};
+use crate::kinds::{asked, broadcast, crash, deliver, detect, lose, receive, send};
 use crate::say;
 use bank::Bank;
 use numbers::{Kind, Mode};
@@ -10,36 +10,45 @@ use std::io::Print;
 fn unfit(rt: &impl Print) -> io::Result<()> {
     let mut bank = opened(3, Mode::AllAck);
     bank[Bank::MODE] = 3;
-    say::asked(
+    say::steps(
         rt,
         &mut bank,
         &[
-            ("step in an unfit bank", [Kind::Crash as u16, 0, 0, 0]),
-            ("step of no kind in an unfit bank", [9, 0, 0, 0]),
+            ("step in an unfit bank", asked(Kind::Crash as u16, 0, 0, 0)),
+            ("step of no kind in an unfit bank", asked(9, 0, 0, 0)),
         ],
     )
 }
 
 fn not_asked(rt: &impl Print) -> io::Result<()> {
-    say::asked(
+    say::steps(
         rt,
         &mut opened(3, Mode::AllAck),
         &[
-            ("kind 0", [0, 0, 0, 0]),
-            ("kind 8", [8, 0, 0, 0]),
+            ("kind 0", asked(0, 0, 0, 0)),
+            ("kind 8", asked(8, 0, 0, 0)),
             (
                 "deliver with a third number",
-                [Kind::Deliver as u16, 0, 0, 1],
+                asked(Kind::Deliver as u16, 0, 0, 1),
             ),
-            ("crash with a second number", [Kind::Crash as u16, 0, 1, 0]),
-            ("crash with a third number", [Kind::Crash as u16, 0, 0, 1]),
-            ("detect with a third number", [Kind::Detect as u16, 0, 1, 1]),
+            (
+                "crash with a second number",
+                asked(Kind::Crash as u16, 0, 1, 0),
+            ),
+            (
+                "crash with a third number",
+                asked(Kind::Crash as u16, 0, 0, 1),
+            ),
+            (
+                "detect with a third number",
+                asked(Kind::Detect as u16, 0, 1, 1),
+            ),
         ],
     )
 }
 
 fn not_there(rt: &impl Print) -> io::Result<()> {
-    say::taken(
+    say::steps(
         rt,
         &mut opened(3, Mode::AllAck),
         &[
@@ -55,7 +64,7 @@ fn not_there(rt: &impl Print) -> io::Result<()> {
 }
 
 fn not_given(rt: &impl Print) -> io::Result<()> {
-    say::taken(
+    say::steps(
         rt,
         &mut opened(3, Mode::AllAck),
         &[
@@ -68,7 +77,7 @@ fn not_given(rt: &impl Print) -> io::Result<()> {
 }
 
 fn down(rt: &impl Print) -> io::Result<()> {
-    say::taken(
+    say::steps(
         rt,
         &mut opened(3, Mode::Majority),
         &[
@@ -82,7 +91,7 @@ fn down(rt: &impl Print) -> io::Result<()> {
 }
 
 fn copies(rt: &impl Print) -> io::Result<()> {
-    say::taken(
+    say::steps(
         rt,
         &mut opened(3, Mode::AllAck),
         &[
@@ -97,7 +106,7 @@ fn copies(rt: &impl Print) -> io::Result<()> {
 }
 
 fn sender_up_and_down(rt: &impl Print) -> io::Result<()> {
-    say::taken(
+    say::steps(
         rt,
         &mut after(3, &[broadcast(0, 95, 7)]),
         &[
@@ -116,7 +125,7 @@ fn sender_up_and_down(rt: &impl Print) -> io::Result<()> {
 
 // A copy is on its way to one that is down: it acts no more, and the copy may be lost, but only once.
 fn receiver_down(rt: &impl Print) -> io::Result<()> {
-    say::taken(
+    say::steps(
         rt,
         &mut after(2, &[broadcast(0, 95, 7), send(0, 1, 0), crash(1)]),
         &[
@@ -131,7 +140,7 @@ fn receiver_down(rt: &impl Print) -> io::Result<()> {
 
 fn deliveries(rt: &impl Print) -> io::Result<()> {
     let mut bank = after(1, &[broadcast(0, 0, 0), send(0, 0, 0)]);
-    say::taken(
+    say::steps(
         rt,
         &mut bank,
         &[
@@ -140,7 +149,7 @@ fn deliveries(rt: &impl Print) -> io::Result<()> {
         ],
     )?;
     let mut spoilt = bank;
-    say::taken(
+    say::steps(
         rt,
         &mut bank,
         &[
@@ -149,7 +158,7 @@ fn deliveries(rt: &impl Print) -> io::Result<()> {
         ],
     )?;
     spoilt[bank::length_at::<Bank>(0)] = 1;
-    say::taken(
+    say::steps(
         rt,
         &mut spoilt,
         &[("deliver into a full log", deliver(0, 0))],
@@ -158,7 +167,7 @@ fn deliveries(rt: &impl Print) -> io::Result<()> {
 
 // Broadcast 32 is fine, the 33rd is not.
 fn broadcasts(rt: &impl Print) -> io::Result<()> {
-    say::taken(
+    say::steps(
         rt,
         &mut after_broadcasts(31),
         &[

@@ -6,7 +6,7 @@ use Rattle.std.specs.Prelude.{Result, Ok, Err}
 use Rattle.numbers.specs.declared.Refusal.{Refusal}
 use Rattle.numbers.specs.Numbers.{given}
 use Rattle.numbers.proofs.OneAnswer.{one_result_by}
-use Rattle.day.specs.Answer.{answered, TallyAnswer}
+use Rattle.day.specs.Answer.{tally_answered, TallyAnswer}
 use Rattle.bank.specs.Layout.{Layout}
 use Rattle.day.specs.Tallies.{TallyPromise}
 use Rattle.day.specs.declared.entries.Tally.{Tally}
@@ -21,7 +21,7 @@ pub one-tally : {t u v : Tally} → u ≡ t → v ≡ t → u ≡ v
 one-tally e f = e ∙ sym f
 
 -- what an answer is read as tells the answer
-number_read : (r : Result Tally Refusal) → (answered r).refusal ≡ given r
+number_read : (r : Result Tally Refusal) → (tally_answered r).refusal ≡ given r
 number_read (Ok t) = refl
 number_read (Err r) = refl
 
@@ -30,4 +30,4 @@ pub answer_determined : (L : Layout) (b : List ℕ) (who day : ℕ) {r s : Resul
 answer_determined L b who day {r} {s} e f =
     let g = e ∙ sym f in
     one_result_by r s (sym (number_read r) ∙ ap (λ a. a.refusal) g ∙ number_read s)
-    (λ t u i j. ap (λ a. a.tally) (sym (ap answered i) ∙ g ∙ ap answered j))
+    (λ t u i j. ap (λ a. a.tally) (sym (ap tally_answered i) ∙ g ∙ ap tally_answered j))

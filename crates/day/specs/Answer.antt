@@ -6,9 +6,9 @@ use Rattle.bank.specs.Layout.{Layout}
 use Rattle.day.specs.declared.entries.Tally.{Tally}
 use Rattle.day.specs.Tallies.{DayAnswer, day_answer, empty, tally_of}
 
-abbrev pub answered : Result Tally Refusal → DayAnswer
-answered (Ok t) = day_answer 0 t
-answered (Err r) = day_answer (number r) empty
+abbrev pub tally_answered : Result Tally Refusal → DayAnswer
+tally_answered (Ok t) = day_answer 0 t
+tally_answered (Err r) = day_answer (number r) empty
 
 abbrev pub TallyAnswer : Layout → List ℕ → ℕ → ℕ → Result Tally Refusal → Type 0
-TallyAnswer L b who day r = answered r ≡ tally_of L b who day
+TallyAnswer L b who day r = tally_answered r ≡ tally_of L b who day

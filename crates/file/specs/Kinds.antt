@@ -7,19 +7,19 @@ use Rattle.file.specs.declared.RecordKind.{RecordKind}
 use Rattle.file.specs.declared.RecordKind.TheVariants.{Step, Open, Settle}
 use Rattle.file.specs.Records.{open_kind, settle_kind}
 
-abbrev pub kind_number : RecordKind → ℕ
-kind_number (Step k) = Numbers.kind_number k
-kind_number Open = open_kind
-kind_number Settle = settle_kind
+abbrev pub record_kind_number : RecordKind → ℕ
+record_kind_number (Step k) = Numbers.kind_number k
+record_kind_number Open = open_kind
+record_kind_number Settle = settle_kind
 
 abbrev pub of_step : Result Kind Refusal → Result RecordKind Refusal
 of_step (Ok k) = Ok (Step k)
 of_step (Err r) = Err r
 
 -- the kind of record that a number stands for
-abbrev pub kind_of : ℕ → Result RecordKind Refusal
-kind_of k =
+abbrev pub record_kind_of : ℕ → Result RecordKind Refusal
+record_kind_of k =
     cond (eqb k open_kind) (Ok Open) (cond (eqb k settle_kind) (Ok Settle) (of_step (Numbers.kind_of k)))
 
 abbrev pub KindPromise : ℕ → Result RecordKind Refusal → Type 0
-KindPromise k r = r ≡ kind_of k
+KindPromise k r = r ≡ record_kind_of k

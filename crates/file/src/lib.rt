@@ -3,7 +3,7 @@
 
 ghost use Rattle.std.specs.Prelude.{◌≡◌, ◌+◌, ◌≤◌, ◌<◌, length, get_or};
 ghost use Rattle.file.specs.Records.{number_at, record_length, well_cut};
-ghost use Rattle.file.specs.Kinds.{kind_number, KindPromise};
+ghost use Rattle.file.specs.Kinds.{record_kind_number, KindPromise};
 ghost use Rattle.file.specs.Promises.{WordPromise, FindPromise, BegunPromise};
 
 use numbers::{Asked, Kind, Refusal};
@@ -34,7 +34,7 @@ impl RecordKind {
     // How many bytes follow the length in a record of that kind.
     #[tactic(auto, unfolding(crate::specs::Records::record_length))]
     fn length(self) -> u16
-        ensures { result ≡ record_length (kind_number self) }
+        ensures { result ≡ record_length (record_kind_number self) }
     {
         match self {
             RecordKind::Step(Kind::Broadcast | Kind::Send | Kind::Receive | Kind::Lose) => 8,

@@ -5,7 +5,7 @@ use mathlib.Core.List.{List}
 use Rattle.sets.proofs.Tests.{one_value}
 use Rattle.bank.specs.Layout.{Layout}
 use Rattle.lists.specs.Lists.{RunPromise}
-use Rattle.lists.specs.Logs.{answered, LengthPromise, LogPromise}
+use Rattle.lists.specs.Logs.{length_answered, LengthPromise, LogPromise}
 use Rattle.std.specs.Prelude.{Result}
 use Rattle.numbers.specs.declared.Refusal.{Refusal}
 use Rattle.numbers.specs.Numbers.{given}
@@ -27,6 +27,6 @@ log_determined L b who e f = one_value e f
 
 -- the code's answer, which carries the length where nothing refuses the question
 pub length_answer_determined : (L : Layout) (b : List ℕ) (who : ℕ) {r s : Result ℕ Refusal}
-    → LengthPromise L b who (given r) (answered r) → LengthPromise L b who (given s) (answered s) → r ≡ s
+    → LengthPromise L b who (given r) (length_answered r) → LengthPromise L b who (given s) (length_answered s) → r ≡ s
 length_answer_determined L b who {r} {s} e f =
-    one_result_by r s (e.0 ∙ sym f.0) (λ n k i j. sym (ap answered i) ∙ (e.1 ∙ sym f.1) ∙ ap answered j)
+    one_result_by r s (e.0 ∙ sym f.0) (λ n k i j. sym (ap length_answered i) ∙ (e.1 ∙ sym f.1) ∙ ap length_answered j)

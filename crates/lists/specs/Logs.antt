@@ -18,9 +18,9 @@ abbrev pub log_of : Layout → List ℕ → ℕ → List ℕ
 log_of L b who = take (used_length L b who) (drop (address L (log who 0)) b)
 
 -- the length that is answered: 0 where the question is refused
-abbrev pub answered : Result ℕ Refusal → ℕ
-answered (Ok n) = n
-answered (Err r) = 0
+abbrev pub length_answered : Result ℕ Refusal → ℕ
+length_answered (Ok n) = n
+length_answered (Err r) = 0
 
 abbrev pub LengthPromise : Layout → List ℕ → ℕ → ℕ → ℕ → Type 0
 LengthPromise L b who r n = (r ≡ log_refusal L b who) × (n ≡ used_length L b who)

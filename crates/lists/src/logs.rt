@@ -1,14 +1,14 @@
 // Questions about a log. Reads the header, one log length and that log; writes nothing.
 ghost use Rattle.numbers.specs.Numbers.{given};
 ghost use Rattle.bank.specs.Layout.{layout};
-ghost use Rattle.lists.specs.Logs.{answered, LengthPromise, LogPromise};
+ghost use Rattle.lists.specs.Logs.{length_answered, LengthPromise, LogPromise};
 
 use bank::{Bank, Room};
 use numbers::Refusal;
 
 // How long a log is.
 pub fn log_length<R: Room>(bank: &[u16], who: u16) -> Result<u16, Refusal>
-    ensures { LengthPromise (layout R.room) bank.now who (given result) (answered result) }
+    ensures { LengthPromise (layout R.room) bank.now who (given result) (length_answered result) }
 {
     Refusal::Unfit.unless(bank::fit::<R>(bank))?;
     Refusal::NoController.unless(who < bank::word(bank, Bank::N))?;

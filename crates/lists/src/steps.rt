@@ -29,7 +29,7 @@ impl From<Ran> for CRan {
     fn from(ran: Ran) -> CRan {
         CRan {
             accepted: ran.accepted,
-            refusal: numbers::number(ran.ended),
+            refusal: numbers::given(ran.ended),
         }
     }
 }

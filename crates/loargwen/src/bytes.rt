@@ -38,7 +38,8 @@ fn store(words: &[u16], bytes: &mut [u8])
     }
 }
 
-// Calls on the words of a bank's bytes, and writes them back where it refuses nothing.
+// Calls on the words of a bank's bytes, and writes them back where it refuses nothing. Written out: of a `?` at a T
+// that it knows nothing of, the check finds no proof.
 pub(crate) fn on_words<T, F: FnOnce(&mut [u16; Bank::WORDS]) -> Result<T, Refusal>>(
     bank: &mut [u8],
     call: F,

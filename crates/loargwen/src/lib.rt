@@ -13,18 +13,18 @@ ghost use Rattle.loargwen.specs.Face.{OpenBytes, StepBytes, SettleBytes, TallyBy
 pub use answers::{Day, Settled};
 use bank::Bank;
 use bytes::on_words;
-use numbers::{Asked, Refusal, number};
+use numbers::{Asked, Refusal, given};
 
 pub fn loargwen_open(bank: &mut [u8], n: u16, mode: u16) -> u16
     ensures { OpenBytes bank.old n mode result bank.new }
 {
-    number(on_words(bank, |words| bank::open::<Bank>(words, n, mode)))
+    given(on_words(bank, |words| bank::open::<Bank>(words, n, mode)))
 }
 
 pub fn loargwen_step(bank: &mut [u8], kind: u16, a: u16, b: u16, c: u16) -> u16
     ensures { StepBytes bank.old (ask kind a b c) result bank.new }
 {
-    number(on_words(
+    given(on_words(
         bank,
         |words| group::step::<Bank>(words, Asked { kind, a, b, c }),
     ))

@@ -72,15 +72,7 @@ one_result_by (Err a) (Err b) e f = ap Err (one_refusal a b e)
 pub one_result : (r s : Result (Unit {0}) Refusal) → given r ≡ given s → r ≡ s
 one_result r s e = one_result_by r s e (λ x y _ _. refl)
 
--- an answer is accepted where its number is 0, and only there
-pub given_ok : {A : Type 0} (r : Result A Refusal) → is_ok r ≡ true → given r ≡ 0
-given_ok (Ok x) e = refl
-given_ok (Err a) e = absurd (false≢true e)
-
-pub given_err : {A : Type 0} (r : Result A Refusal) → is_ok r ≡ false → given r ≡ 0 → ⊥
-given_err (Ok x) e = absurd (true≢false e)
-given_err (Err a) e = refused_above a
-
+-- an answer whose number is 0 is accepted
 pub ok_given : {A : Type 0} (r : Result A Refusal) → given r ≡ 0 → is_ok r ≡ true
 ok_given (Ok x) e = refl
 ok_given (Err a) e = absurd (refused_above a e)

@@ -5,8 +5,8 @@
 ghost use Rattle.std.specs.Prelude.{◌≡◌};
 ghost use Rattle.numbers.specs.Numbers;
 
-// The four numbers that ask for a step: its kind, and what the kind uses. They are any four, since what asks for no step
-// is to be refused; C programs hand them over as they stand.
+// The four numbers that ask for a step: its kind, and what the kind uses. They are any four, since what asks for no
+// step is to be refused; C programs hand them over as they stand.
 #[repr(C)]
 #[derive(Clone, Copy, Debug, PartialEq, Eq)]
 pub struct Asked {
@@ -112,7 +112,7 @@ impl From<Refusal> for u16 {
 }
 
 // The number that a call gives back: 0 where nothing refuses it.
-pub fn number(answer: Result<(), Refusal>) -> u16
+pub fn given(answer: Result<(), Refusal>) -> u16
     ensures { result ≡ Numbers.given answer }
 {
     match answer {

@@ -12,7 +12,7 @@ use Rattle.sets.proofs.Tests.{one_value}
 use Rattle.bank.specs.Layout.{Layout}
 use Rattle.refusals.specs.declared.step.Step.{Step as Taken}
 use Rattle.refusals.specs.Step.{Step, Asked, asked}
-use Rattle.refusals.specs.Asking.{meant, Decodes, Asks}
+use Rattle.refusals.specs.Asking.{meant, Decodes, IsAsked}
 use Rattle.refusals.specs.Delivery.{enough}
 use Rattle.refusals.specs.Promises.{RefusalPromise}
 use Rattle.refusals.proofs.SameSteps.{one_meaning}
@@ -26,11 +26,11 @@ pub enough_determined : (k n trusted received : ℕ) {t u : Bool} → t ≡ enou
 enough_determined k n trusted received e f = one_value e f
 
 pub allowed_determined : (L : Layout) (b : List ℕ) (x : Asked) {r s : Result Taken Refusal}
-    → RefusalPromise L b x (given r) → Asks x r → RefusalPromise L b x (given s) → Asks x s → r ≡ s
+    → RefusalPromise L b x (given r) → IsAsked x r → RefusalPromise L b x (given s) → IsAsked x s → r ≡ s
 allowed_determined L b x {r} {s} e p f q =
     one_result_by r s (one_value e f) (λ t u i j. one_meaning t u (same (sym (asked_for t i p) ∙ asked_for u j q)))
   where
-    asked_for : {r : Result Taken Refusal} (t : Taken) → r ≡ Ok t → Asks x r → asked x ≡ some (meant t)
+    asked_for : {r : Result Taken Refusal} (t : Taken) → r ≡ Ok t → IsAsked x r → asked x ≡ some (meant t)
     asked_for t i p = rw i at p
 
     same : {s t : Step} → some s ≡ some t → s ≡ t

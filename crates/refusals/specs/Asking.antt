@@ -31,5 +31,5 @@ abbrev pub Decodes : Asked → Result Taken Refusal → Type 0
 Decodes x r = MatchResult r (λ s. asked x ≡ some (meant s)) (λ e. (asked x ≡ none) × (e ≡ NoStep))
 
 -- where the answer is a step, it is the one that is asked for
-abbrev pub Asks : Asked → Result Taken Refusal → Type 0
-Asks x r = IfOk r (λ s. asked x ≡ some (meant s))
+abbrev pub IsAsked : Asked → Result Taken Refusal → Type 0
+IsAsked x r = IfOk r (λ s. asked x ≡ some (meant s))

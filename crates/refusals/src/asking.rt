@@ -2,7 +2,7 @@
 ghost use Rattle.std.specs.Prelude.{◌≡◌};
 ghost use Rattle.numbers.specs.Numbers.{given};
 ghost use Rattle.bank.specs.Layout.{layout};
-ghost use Rattle.refusals.specs.Asking.{meant, Asks};
+ghost use Rattle.refusals.specs.Asking.{meant, IsAsked};
 ghost use Rattle.refusals.specs.Promises.{RefusalPromise, step_refusal};
 
 use crate::kinds::of_fit;
@@ -23,7 +23,7 @@ pub fn of_step<R: Room>(bank: &[u16], step: Step) -> Result<(), Refusal>
 #[tactic(auto, unfolding(crate::specs::Promises::refusal_of))]
 pub fn allowed<R: Room>(bank: &[u16], asked: Asked) -> Result<Step, Refusal>
     ensures refused { RefusalPromise (layout R.room) bank.now asked (given result) }
-    ensures step { Asks asked result }
+    ensures step { IsAsked asked result }
 {
     Refusal::Unfit.unless(bank::fit::<R>(bank))?;
     let step = Step::try_from(asked)?;

@@ -113,6 +113,6 @@ pub(crate) fn end_line(to: &mut Printer, steps: u32, ended: Result<(), Refusal>)
 {
     to.put_all(b"end ");
     to.decimal(steps);
-    to.number(b" ", numbers::number(ended));
+    to.number(b" ", numbers::given(ended));
     to.put(b'\n');
 }

@@ -40,7 +40,7 @@ pub fn without(w: u16, i: u16) -> u16
 pub fn all_below(n: u16) -> u16
     ensures { result ≡ Set.all_below (min n 16) }
 {
-    if n < 16 { (1 << n) - 1 } else { 65535 }
+    if n < 16 { (1 << n) - 1 } else { u16::MAX }
 }
 
 // The members below n alone.
@@ -81,7 +81,8 @@ pub fn less(u: u16, w: u16) -> u16
     u & !w
 }
 
-// The lowest member below n, or n where there is none. A word has at most 16 trailing zeros, so that the cast loses none.
+// The lowest member below n, or n where there is none. A word has at most 16 trailing zeros, so that the cast loses
+// nothing.
 pub fn lowest(w: u16, n: u16) -> u16
     ensures { result ≡ Set.lowest w n }
 {

@@ -10,7 +10,7 @@ use Rattle.numbers.specs.Numbers.{given}
 use Rattle.numbers.proofs.OneAnswer.{one_result_by}
 use Rattle.settler.specs.declared.Settled.{Settled}
 use Rattle.settler.specs.Settling.{Ending, SettlePromise}
-use Rattle.settler.specs.Answer.{ended, SettleAnswer}
+use Rattle.settler.specs.Answer.{settled_as, SettleAnswer}
 
 pub settle_determined : (L : Layout) (b : List ℕ) (budget : ℕ) {r s j k : ℕ} {p q : Bool} {c d : List ℕ}
     → SettlePromise L b budget r j p c → SettlePromise L b budget s k q d → (r ≡ s) × (j ≡ k) × (p ≡ q) × (c ≡ d)
@@ -18,11 +18,11 @@ settle_determined L b budget e f =
     let g = e ∙ sym f in (ap (λ o. o.refusal) g, ap (λ o. o.steps) g, ap (λ o. o.quiet) g, ap (λ o. o.bank) g)
 
 -- what an answer is read as tells the answer
-ended_number : (r : Result Settled Refusal) (b : List ℕ) → (ended r b).refusal ≡ given r
+ended_number : (r : Result Settled Refusal) (b : List ℕ) → (settled_as r b).refusal ≡ given r
 ended_number (Ok s) b = refl
 ended_number (Err r) b = refl
 
-ended_bank : (r : Result Settled Refusal) (b : List ℕ) → (ended r b).bank ≡ b
+ended_bank : (r : Result Settled Refusal) (b : List ℕ) → (settled_as r b).bank ≡ b
 ended_bank (Ok s) b = refl
 ended_bank (Err r) b = refl
 
@@ -34,6 +34,6 @@ pub answer_determined : (L : Layout) (b : List ℕ) (budget : ℕ) {r s : Result
 answer_determined L b budget {r} {s} {c} {d} e f =
     let g = e ∙ sym f in (
       one_result_by r s (sym (ended_number r c) ∙ ap (λ o. o.refusal) g ∙ ended_number s d)
-          (λ x y i j. ap settled_of (sym (ap (λ a. ended a c) i) ∙ g ∙ ap (λ a. ended a d) j)),
+          (λ x y i j. ap settled_of (sym (ap (λ a. settled_as a c) i) ∙ g ∙ ap (λ a. settled_as a d) j)),
       sym (ended_bank r c) ∙ ap (λ o. o.bank) g ∙ ended_bank s d,
     )

@@ -20,7 +20,7 @@ use Rattle.bank.specs.Place.{N, count}
 use Rattle.bank.specs.Layout.{Layout, words}
 use Rattle.refusals.specs.Step.{Step, detect}
 use Rattle.settler.specs.Candidates.{below, each, pairs, of_message, candidates, first_of, free, next}
-use Rattle.settler.specs.Moves.{next_of}
+use Rattle.settler.specs.Handed.{next_of}
 use Rattle.refusals.specs.declared.step.Step.{Step as Taken}
 use Rattle.settler.proofs.First.{or_else, first_append, rest, rest_begins, rest_found, rest_more, rest_ends}
 use Rattle.settler.proofs.Taking.{quiet_none, take-some}

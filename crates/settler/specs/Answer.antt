@@ -6,9 +6,9 @@ use Rattle.numbers.specs.Numbers.{number}
 use Rattle.settler.specs.declared.Settled.{Settled}
 use Rattle.settler.specs.Settling.{Ending, ending, settle_of}
 
-abbrev pub ended : Result Settled Refusal → List ℕ → Ending
-ended (Ok s) b = ending 0 s.steps s.quiet b
-ended (Err r) b = ending (number r) 0 false b
+abbrev pub settled_as : Result Settled Refusal → List ℕ → Ending
+settled_as (Ok s) b = ending 0 s.steps s.quiet b
+settled_as (Err r) b = ending (number r) 0 false b
 
 abbrev pub SettleAnswer : Layout → List ℕ → ℕ → Result Settled Refusal → List ℕ → Type 0
-SettleAnswer L b budget r b' = ended r b' ≡ settle_of L b budget
+SettleAnswer L b budget r b' = settled_as r b' ≡ settle_of L b budget

@@ -7,7 +7,7 @@ ghost use Rattle.refusals.specs.Step.{detect, deliver};
 ghost use Rattle.refusals.specs.Asking.{coded};
 ghost use Rattle.settler.specs.Candidates;
 ghost use Rattle.settler.specs.Candidates.{below, each, pairs, of_message, first_of, free};
-ghost use Rattle.settler.specs.Moves.{next_of, copy_step, copy_set};
+ghost use Rattle.settler.specs.Handed.{next_of, copy_step, copy_set};
 
 use bank::{Bank, Room};
 use numbers::Mode;

@@ -32,7 +32,7 @@ pub extern "C" fn words_run(bank: &mut [u16], steps: &[u16]) -> CRan
 pub extern "C" fn words_refusal(bank: &[u16], kind: u16, a: u16, b: u16, c: u16) -> u16
     ensures { RefusalPromise paper bank.now (ask kind a b c) result }
 {
-    numbers::number(refusals::refusal::<Bank>(bank, Asked { kind, a, b, c }))
+    numbers::given(refusals::refusal::<Bank>(bank, Asked { kind, a, b, c }))
 }
 
 #[unsafe(no_mangle)]

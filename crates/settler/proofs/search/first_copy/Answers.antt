@@ -4,7 +4,7 @@ use mathlib.Core.List.{map}
 use Rattle.bank.specs.Place.{N}
 use Rattle.bank.specs.Layout.{layout, words}
 use Rattle.settler.specs.Candidates.{below, free}
-use Rattle.settler.specs.Moves.{copy_step}
+use Rattle.settler.specs.Handed.{copy_step}
 use Rattle.settler.proofs.Free.{copy_row}
 use Rattle.settler.proofs.Mapped.{rows_mapped}
 use Rattle.settler.proofs.search.first_copy.Goals as goal
