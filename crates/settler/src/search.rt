@@ -1,56 +1,50 @@
 // The first step that the settler may take in a fit bank. Whole set words are looked at, and the lowest member taken;
 // reads the bank, writes nothing.
-ghost use Rattle.std.specs.Prelude.{◌≡◌, map, ◌<◌};
-ghost use Rattle.bank.specs.Place.{N, count, message};
-ghost use Rattle.bank.specs.Layout.{layout, words};
-ghost use Rattle.refusals.specs.Step.{detect, deliver};
+ghost use Rattle.std.specs.Prelude.{◌≡◌, ◌&&◌, map, cond, ltb, ◌<◌, Some, None};
+ghost use Rattle.sets.specs.Set.{has, lowest};
+ghost use Rattle.bank.specs.Place.{N, count, up};
+ghost use Rattle.bank.specs.Layout.{layout, paper, words};
+ghost use Rattle.refusals.specs.Step.{send, receive, deliver, detect};
 ghost use Rattle.refusals.specs.Asking.{coded};
 ghost use Rattle.settler.specs.Candidates;
-ghost use Rattle.settler.specs.Candidates.{below, each, pairs, of_message, first_of, free};
-ghost use Rattle.settler.specs.Handed.{next_of, copy_step, copy_set};
+ghost use Rattle.settler.specs.Candidates.{below, each, pairs, of_message, first_of, free, Decided};
+ghost use Rattle.settler.specs.Handed.{next_of};
 
 use bank::{Bank, Room};
 use numbers::Mode;
 use refusals::Step;
 
-// The copies that wait for a controller: those that it must send, and those on their way to it.
-#[derive(Clone, Copy, Debug, PartialEq, Eq)]
-enum Copies {
-    ToSend,
-    InFlight,
-}
-
-impl Copies {
-    // The set word that decides them, of message m at controller i.
-    fn set<R: Room>(self, bank: &[u16], m: u16, i: u16) -> u16
-        ensures { result ≡ words (layout R.room) bank.now (message m (copy_set self i)) }
-    {
-        match self {
-            Copies::ToSend => bank::unsent::<R>(bank, m, i),
-            Copies::InFlight => bank::in_flight::<R>(bank, m, i),
-        }
-    }
-
-    // What controller i does with the one to, or from, controller j.
-    fn step(self, message: u16, i: u16, j: u16) -> Step
-        ensures { result ≡ coded (copy_step self message i j) }
-    {
-        match self {
-            Copies::ToSend => Step::Send {
-                from: i,
-                to: j,
-                message,
-            },
-            Copies::InFlight => Step::Receive {
-                at: i,
-                from: j,
-                message,
-            },
-        }
-    }
+// The first step by a controller that is up, with the lowest member of its set word. Of the steps s of all pairs it is
+// the first that passes any test p that the words decide.
+fn first_of_rows<W: Fn(u16) -> u16, S: Fn(u16, u16) -> Step>(
+    bank: &[u16],
+    set: W,
+    step: S,
+) -> Option<Step>
+    requires set { W.IsAlwaysCallable set }
+    requires step { S.IsAlwaysCallable step }
+    ensures { (p : _) (s : _)
+        → ((i w : _) → i < words paper bank.now N → W.post set i w
+        → Decided p (s i) (words paper bank.now N) (has (words paper bank.now up) i) w)
+        → ((i j r : _) → S.post step i j r → r ≡ coded (s i j))
+        → result ≡ next_of (first_of p (pairs (words paper bank.now N) s)) }
+{
+    let n = bank::word(bank, Bank::N);
+    let up = bank::word(bank, Bank::UP);
+    (0..n).find_map(
+        |i|
+            requires callable { W.IsAlwaysCallable set × S.IsAlwaysCallable step }
+            ensures { (w x : _) × W.post set i w × S.post step i (lowest w n) x
+                × (result ≡ cond (has up i && ltb (lowest w n) n) (Some x) None) }
+        {
+            let j = sets::lowest(set(i), n);
+            (sets::has(up, i) && j < n).then_some(step(i, j))
+        },
+    )
 }
 
 // The first detect: a controller that is up, and the lowest that it still takes to be up and that is down.
+#[tactic(auto, using(crate::proofs::Free::detect_decided, crate::proofs::Free::detect_none))]
 fn first_detect<R: Room>(bank: &[u16]) -> Option<Step>
     ensures { result
         ≡ next_of (first_of (free (layout R.room) bank.now)
@@ -59,33 +53,42 @@ fn first_detect<R: Room>(bank: &[u16]) -> Option<Step>
     if bank::word(bank, Bank::MODE) != Mode::AllAck as u16 {
         return None;
     }
-    let n = bank::word(bank, Bank::N);
     let up = bank::word(bank, Bank::UP);
-    (0..n).find_map(|i| {
-        if !sets::has(up, i) {
-            return None;
-        }
-        let j = sets::lowest(sets::less(bank::view(bank, i), up), n);
-        (j < n).then_some(Step::Detect { at: i, of: j })
-    })
+    first_of_rows(
+        bank,
+        |i| sets::less(bank::view(bank, i), up),
+        |at, of| Step::Detect { at, of },
+    )
 }
 
-// The first copy of message m that is to be sent or received, by a controller that is up.
-fn first_copy<R: Room>(bank: &[u16], copies: Copies, m: u16) -> Option<Step>
-    requires { m < words (layout R.room) bank.now count }
+// The first copy of a message that is to be sent, by a controller that is up.
+#[tactic(auto, using(crate::proofs::Free::send_decided))]
+fn first_send<R: Room>(bank: &[u16], message: u16) -> Option<Step>
+    requires { message < words (layout R.room) bank.now count }
     ensures { result
         ≡ next_of (first_of (free (layout R.room) bank.now)
-        (pairs (words (layout R.room) bank.now N) (copy_step copies m))) }
+        (pairs (words (layout R.room) bank.now N) (λ i j. send i j message))) }
 {
-    let n = bank::word(bank, Bank::N);
-    let up = bank::word(bank, Bank::UP);
-    (0..n).find_map(|i| {
-        if !sets::has(up, i) {
-            return None;
-        }
-        let j = sets::lowest(copies.set::<R>(bank, m, i), n);
-        (j < n).then_some(copies.step(m, i, j))
-    })
+    first_of_rows(
+        bank,
+        |i| bank::unsent::<R>(bank, message, i),
+        |from, to| Step::Send { from, to, message },
+    )
+}
+
+// The first copy of a message that is on its way, to a controller that is up.
+#[tactic(auto, using(crate::proofs::Free::receive_decided))]
+fn first_receive<R: Room>(bank: &[u16], message: u16) -> Option<Step>
+    requires { message < words (layout R.room) bank.now count }
+    ensures { result
+        ≡ next_of (first_of (free (layout R.room) bank.now)
+        (pairs (words (layout R.room) bank.now N) (λ i j. receive i j message))) }
+{
+    first_of_rows(
+        bank,
+        |i| bank::in_flight::<R>(bank, message, i),
+        |at, from| Step::Receive { at, from, message },
+    )
 }
 
 // The first delivery of message m; only those who hold it and have not delivered it are asked about.
@@ -109,8 +112,8 @@ fn first_of_message<R: Room>(bank: &[u16], m: u16) -> Option<Step>
         ≡ next_of (first_of (free (layout R.room) bank.now)
         (of_message (words (layout R.room) bank.now N) m)) }
 {
-    first_copy::<R>(bank, Copies::ToSend, m)
-        .or_else(|| first_copy::<R>(bank, Copies::InFlight, m))
+    first_send::<R>(bank, m)
+        .or_else(|| first_receive::<R>(bank, m))
         .or_else(|| first_deliver::<R>(bank, m))
 }
 
