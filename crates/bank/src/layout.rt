@@ -1,10 +1,10 @@
 // The two sizes of bank, and where each word of either stands. Nothing else knows the numbers of a size, but the C face
 // how many bytes a bank has.
-ghost use Rattle.std.specs.Prelude.{◌≡◌, ◌+◌, ℕ, Bool, true, false, refl};
+ghost use Rattle.std.specs.Prelude.{◌≡◌, ◌+◌, ℕ, Bool, true, false};
 ghost use Rattle.bank.specs.Place.{view, log_length, log, acked, unsent, in_flight};
 ghost use Rattle.bank.specs.Layout;
-ghost use Rattle.bank.specs.Layout.{paper, layout, record_size, record_at, offset, address};
-ghost use Rattle.bank.specs.Rooms.{Laid};
+ghost use Rattle.bank.specs.Layout.{paper, rack, layout, record_size, record_at, offset, address};
+ghost use Rattle.bank.specs.Rooms.{Laid, laid_out};
 
 // A size of bank, as a type: whoever works on both takes it as a parameter. Each number stands twice, for the code and
 // for clauses, which read a constant by its ghost; the check holds the two to be equal.
@@ -127,18 +127,7 @@ impl Room for Bank {
 
     const IN_FLIGHT: usize = 37;
 
-    ghost laid = { record {
-      controllers = refl;
-      messages = refl;
-      words = refl;
-      lengths = refl;
-      logs = refl;
-      log = refl;
-      records = refl;
-      record_words = refl;
-      unsent = refl;
-      in_flight = refl;
-    } };
+    ghost laid = { laid_out paper };
 }
 
 // The seedling rack's smaller bank.
@@ -188,18 +177,7 @@ impl Room for Rack {
 
     const IN_FLIGHT: usize = 13;
 
-    ghost laid = { record {
-      controllers = refl;
-      messages = refl;
-      words = refl;
-      lengths = refl;
-      logs = refl;
-      log = refl;
-      records = refl;
-      record_words = refl;
-      unsent = refl;
-      in_flight = refl;
-    } };
+    ghost laid = { laid_out rack };
 }
 
 // ---- in the bank

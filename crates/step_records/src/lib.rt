@@ -1,6 +1,6 @@
-// A Rattle caller's own list of step records, walked by one thin function over the group's single step. C programs have
-// the same call from `step_records_c`. It stands beside `lists::run`, whose list is of words: one walk for both would go
-// over an iterator, with clauses on what it yields and that it ends, and be no plainer than two short loops.
+// A Rattle caller's own list of step records, walked by one thin function over the group's single step. C programs
+// have the same call from `step_records_c`. It stands beside `lists::run`, whose list is of words: one walk for both
+// would go over an iterator, with clauses on what it yields and that it ends, and be no plainer than two short loops.
 #![tactic(auto)]
 
 ghost use Rattle.numbers.specs.Numbers.{given};
