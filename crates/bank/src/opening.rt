@@ -16,7 +16,8 @@ pub fn clear(words: &mut [u16])
     words.fill(0);
 }
 
-// Each of the first n controllers takes all n to be up.
+// Each of the first n controllers takes all n to be up. One by one, as `views` writes them: for a `fill` of the run the
+// check found no proof.
 fn open_views<R: Room>(bank: &mut [u16], n: u16)
     requires { (length bank.old ≡ Layout.size (layout R.room)) × (n ≤ (layout R.room).controllers) }
     ensures { bank.new ≡ puts (address (layout R.room)) bank.old (views n 0 n) }

@@ -22,7 +22,8 @@ pub(crate) fn is_mode(mode: u16) -> bool
     Mode::try_from(mode).is_ok()
 }
 
-// No log of the first n controllers is longer than there are messages.
+// No log of the first n controllers is longer than there are messages. A loop: for `(0..n).all(..)` the check found no
+// proof.
 fn logs_fit<R: Room>(bank: &[u16], n: u16) -> bool
     ensures { result ≡ every (log_fits (words (layout R.room) bank.now)) n }
 {

@@ -1,4 +1,5 @@
 // A bank's words by name, as the definitions read them: 0 past the bank's end. Each call reads one word.
+// One function a word: each is promised by its name (docs/PROMISES.md).
 ghost use Rattle.std.specs.Prelude.{◌≡◌, ◌+◌, ◌≤◌, get_or};
 ghost use Rattle.bank.specs.Place;
 ghost use Rattle.bank.specs.Place.{message};
@@ -10,7 +11,7 @@ use crate::layout::{Bank, Room, acked_at, flight_at, length_at, record_at, unsen
 pub fn word(bank: &[u16], at: usize) -> u16
     ensures { result ≡ get_or bank.now at 0 }
 {
-    if at < bank.len() { bank[at] } else { 0 }
+    bank.get(at).copied().unwrap_or(0)
 }
 
 // Whom controller i takes to be up.

@@ -1,5 +1,6 @@
 // The four numbers that ask for a step, by its kind and by any number. By calls: the formatter spreads a literal of
-// `Asked` over several lines, and a table has a line a case.
+// `Asked` over several lines, and a table has a line a case. No `From<Step>`: the numbers are what these cases are
+// about.
 use numbers::{Asked, Kind};
 
 pub(crate) fn asked(kind: u16, a: u16, b: u16, c: u16) -> Asked {

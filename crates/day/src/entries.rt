@@ -13,7 +13,7 @@ impl Tally {
     // The last day: it ends at stamp 65,535.
     pub const LAST_DAY: u16 = 682;
 
-    // By the name that the scope paper has for it.
+    // The default, by the name that the scope paper has for it and docs/PROMISES.md promises.
     pub fn fresh() -> Tally
         ensures { result ≡ empty }
     {

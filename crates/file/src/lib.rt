@@ -1,4 +1,5 @@
-// The bench's file: where a record stands in its bytes, what it carries and what makes it bad. Reads bytes alone.
+// The bench's file: where a record stands in its bytes, what it carries and what makes it bad. Reads bytes alone. The
+// bytes and a place stay two parameters: `word_at` and `find_at` are promised so (docs/PROMISES.md).
 #![tactic(auto)]
 
 ghost use Rattle.std.specs.Prelude.{◌≡◌, ◌+◌, ◌≤◌, ◌<◌, length, get_or};

@@ -1,6 +1,8 @@
 // One message's record, lent from the middle of the bank. Reads and writes nothing but the record.
 // That the record is whole is a clause of each. As a ghost field of a struct round the lent words it was tried, and the
 // check cannot state the bound of a closure that is lent such a struct, over a size of bank, as `in_record` lends it.
+// The bounds of controllers are clauses too: a number and its bound as one type would be made from an allowed step at
+// each call, and be taken apart in the next line.
 ghost use Rattle.std.specs.Prelude.{◌≡◌, cond, ◌<◌, ◌≤◌, length};
 ghost use Rattle.sets.specs.Set.{has, with_all};
 ghost use Rattle.bank.specs.Layout.{layout, record_size, changed};

@@ -15,7 +15,8 @@ pub fn log_length<R: Room>(bank: &[u16], who: u16) -> Result<u16, Refusal>
     Ok(bank::logged::<R>(bank, who))
 }
 
-// The used part of a log within the caller's own bank, of length 0 where the question is refused.
+// The used part of a log within the caller's own bank, of length 0 where the question is refused: no Result, since that
+// is its promise.
 pub fn log<R: Room>(bank: &[u16], who: u16) -> &[u16]
     ensures { LogPromise (layout R.room) bank.now who result.now }
 {

@@ -21,7 +21,8 @@ pub(crate) fn load(bytes: &[u8]) -> Option<[u16; Bank::WORDS]>
     Some(words(bytes))
 }
 
-// Of any number of words: a proof about exactly 2,244 would write each of them out.
+// Of any number of words: a proof about exactly 2,244 would write each of them out. By index, here and below: of what
+// stands in the chunks of `as_chunks`, or is written through an adapter of `iter_mut`, the check found no proof.
 fn words<const N: usize>(bytes: &[u8]) -> [u16; N]
     requires { length bytes.now ≡ 2 * N }
     ensures { result ≡ words_of bytes.now }

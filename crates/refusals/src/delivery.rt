@@ -12,7 +12,8 @@ use crate::beginnings::moves;
 use bank::{Bank, Room};
 use numbers::{Mode, Refusal};
 
-// The delivery test of a mode, among n controllers: whom one of them takes to be up, and from whom it has the message.
+// The delivery test of a mode, which as a bank's word may be any number, among n controllers: whom one of them takes
+// to be up, and from whom it has the message.
 #[tactic(auto, unfolding(crate::specs::Delivery::enough))]
 fn enough(mode: u16, n: u16, trusted: u16, received: u16) -> bool
     ensures { result ≡ Delivery.enough mode n trusted received }

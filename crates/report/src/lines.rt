@@ -1,4 +1,4 @@
-// The lines that the bench prints of a bank, which they only read.
+// The lines that the bench prints: those of a bank, which they only read, and the last.
 ghost use Rattle.numbers.specs.Numbers.{given};
 ghost use Rattle.bank.specs.Place;
 ghost use Rattle.bank.specs.Layout.{paper, words, up_from};
@@ -86,7 +86,7 @@ fn message_lines(to: &mut Printer, bank: &[u16])
     }
 }
 
-// A line for each controller.
+// A line for each controller. Like the messages', but for the bound and the line: no plainer with both as parameters.
 fn controller_lines(to: &mut Printer, bank: &[u16])
     ensures { Prints to.old
         (Lines.lines (controller_line bank.now) (up_from 0 (words paper bank.now Place.N)))

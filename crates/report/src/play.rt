@@ -39,7 +39,7 @@ impl Player {
         Ok(())
     }
 
-    // All records after the open.
+    // All records after the open. No iterator: the next place stands in the record, and a bad one ends it by `?`.
     #[tactic(auto, using(crate::proofs::Playing::plays_end, crate::proofs::Playing::plays_bad))]
     pub(crate) fn play(&mut self, s: &[u8]) -> Result<(), Refusal>
         requires within { (8 ≤ length s.now) × (length s.now ≤ 65536) }

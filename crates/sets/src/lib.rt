@@ -81,8 +81,8 @@ pub fn less(u: u16, w: u16) -> u16
     u & !w
 }
 
-// The lowest member below n, or n where there is none. A word has at most 16 trailing zeros, so that the cast loses
-// nothing.
+// The lowest member below n, or n where there is none: no Option, since its promise, `Set.lowest`, has n. A word has
+// at most 16 trailing zeros, so that the cast loses nothing.
 pub fn lowest(w: u16, n: u16) -> u16
     ensures { result ≡ Set.lowest w n }
 {

@@ -1,5 +1,6 @@
 // The first step that the settler may take in a fit bank. Whole set words are looked at, and the lowest member taken;
-// reads the bank, writes nothing.
+// reads the bank, writes nothing. That a message is one of the bank's is a clause of three, and no type: it is a fact
+// of the bank and the number together, and a value that held both would keep the bank lent.
 ghost use Rattle.std.specs.Prelude.{◌≡◌, ◌&&◌, map, cond, ltb, ◌<◌, Some, None};
 ghost use Rattle.sets.specs.Set.{has, lowest};
 ghost use Rattle.bank.specs.Place.{N, count, up};

@@ -39,6 +39,7 @@ pub extern "C" fn words_refusal(bank: &[u16], kind: u16, a: u16, b: u16, c: u16)
 pub extern "C" fn words_log_length(bank: &[u16], who: u16) -> LogLength
     ensures { LengthPromise paper bank.now who result.refusal result.length }
 {
+    // by a match, and no `From`: it is made here alone
     match lists::log_length::<Bank>(bank, who) {
         Ok(length) => LogLength { refusal: 0, length },
         Err(refusal) => LogLength {
