@@ -13,10 +13,11 @@ abbrev pub asked_of : Asks → Asked
 asked_of (Step x) = x
 asked_of (Settle budget) = record { kind = settle_kind; a = budget; b = 0; c = 0 }
 
--- each case of the answer: the end; a record's kind, numbers and the place after it; a refusal's number
+-- a record's kind, numbers and the place after it
 abbrev pub record_as : Asks → ℕ → Found
 record_as a j = got (asked_of a).kind (asked_of a).a (asked_of a).b (asked_of a).c j
 
+-- each case of the answer: the end; a record; a refusal's number
 abbrev pub read_as : Result (Option Record) Refusal → Found
 read_as (Ok None) = end
 read_as (Ok (Some r)) = record_as r.asks r.next

@@ -3,6 +3,7 @@
 use mathlib.Core.Path.{◌≡◌, refl, sym, ap, subst, ◌∙◌}
 use mathlib.Core.Bool.{Bool, true, false, cond}
 use mathlib.Core.List.{List, []}
+use mathlib.Core.Option.{some}
 use Prim.Native.Nat.{ℕ}
 use native.Mathlib.Nat.{zero-add}
 use lib.Dec.{eqb}
@@ -10,18 +11,19 @@ use lib.ListN.{length}
 use borrow.Author.Tests.{eqb-true, eqb-false}
 use Rattle.bank.specs.Layout.{paper}
 use Rattle.bank.specs.Opening.{answer, open_of, OpenPromise}
-use Rattle.refusals.specs.Step.{Step, asked, Asked}
+use Rattle.refusals.specs.Step.{Step, broadcast, send, receive, deliver, crash, detect, lose, asked, Asked}
 use Rattle.refusals.specs.Promises.{Allowed, refusal_of}
-use Rattle.group.specs.Promises.{after, step_of, StepPromise}
+use Rattle.group.specs.Promises.{after, step_of, StepPromise, TakePromise}
 use Rattle.lists.specs.Lists.{outcome, run_of}
 use Rattle.group.proofs.Kept.{refused_leaves}
+use Rattle.group.proofs.Taking.{asking, taken_as_asked}
 use Rattle.bank.proofs.Fitness.{open_refused-leaves}
 use Rattle.settler.specs.Settling.{ending, SettlePromise}
 use Rattle.step_records.specs.Records.{flat}
 use Rattle.laws.specs.Runs.{Run, done}
 use Rattle.laws.specs.Demand.{Reached}
 use Rattle.laws.specs.Settler.{Tells}
-use Rattle.laws.specs.Calls.{asks_for, asks_first, if_accepted, Promised, Call, open_refused, step, run, run_steps}
+use Rattle.laws.specs.Calls.{asks_for, asks_first, if_accepted, Promised, Call, open_refused, step, take, run, run_steps}
 use Rattle.laws.specs.Calls.{settle, steps_of, count_of, after_open, called, Called, EveryOpen, EveryCaller}
 use Rattle.laws.proofs.Ends.{reached_by}
 use Rattle.laws.proofs.Onward.{plain_run}
@@ -59,6 +61,22 @@ step_led b c x r p = go (eqb r 0) refl
         record { run = subst (Steps b (asks_for (asked x))) (sym bank) led; long = one }
     go false e = unmoved (bank ∙ refused_leaves paper b x (λ z. eqb-false r 0 e (number ∙ z)))
 
+asked_asking : (s : Step) → asked (asking s) ≡ some s
+asked_asking (broadcast who s v) = refl
+asked_asking (send from to m) = refl
+asked_asking (receive i from m) = refl
+asked_asking (deliver i m) = refl
+asked_asking (crash who) = refl
+asked_asking (detect i j) = refl
+asked_asking (lose from to m) = refl
+
+-- a step by its kind is the step of the numbers that ask for it
+take_led : (b c : List ℕ) (s : Step) (r : ℕ) → TakePromise paper b s r c
+    → Led b (if_accepted r (some s)) (cond (eqb r 0) 1 0) c
+take_led b c s r p =
+    subst (λ o. Led b (if_accepted r o) (cond (eqb r 0) 1 0) c) (asked_asking s)
+    (step_led b c (asking s) r (p ∙ taken_as_asked paper b s))
+
 list_led : (b c steps : List ℕ) (a r : ℕ) → outcome a r c ≡ run_of paper b steps → Led b (asks_first a steps) a c
 list_led b c steps a r p =
     let h = run-leads paper b steps in
@@ -80,6 +98,7 @@ module _ {n k : ℕ} {before : List Step} {b : List ℕ} (h : Reached paper n k 
       unmoved
       (ap (λ a. a.bank) p ∙ open_refused-leaves paper b m j (λ e. z (ap (λ a. a.refusal) p ∙ e)))
   call_led (step x r) c p = step_led b c x r p
+  call_led (take s r) c p = take_led b c s r p
   call_led (run steps a r) c p = list_led b c steps a _ p
   call_led (run_steps steps a r) c p = list_led b c (flat steps) a _ p
   call_led (settle d r t q) c p =
@@ -113,6 +132,7 @@ every_caller n k before b h =
           record {
             of_open = λ n k z. refl;
             of_step = λ x. refl;
+            of_take = λ s. refl;
             of_run = λ list. refl;
             of_records = λ list. refl;
             of_settle = λ d. refl;

@@ -23,6 +23,7 @@ use Rattle.bank.proofs.Rules.{stop}
 use Rattle.bank.proofs.Fitness.{fit_facts}
 use Rattle.refusals.proofs.Bounds.{message-below}
 use Rattle.group.proofs.Kept.{fit-after}
+use Rattle.group.proofs.Taking.{asking, taken_as_asked}
 use Rattle.lists.proofs.Asking.{log-asked}
 use Rattle.settler.specs.Candidates.{candidates, first_of, next}
 use Rattle.settler.specs.Settling.{Ending, ending, on_next, settle_from, settle_of}
@@ -195,6 +196,8 @@ above_unread L b c e =
       fitness = fit_same L b c e;
       refusal = refuse_alike L b c e;
       step = λ x. (refuse_alike L b c e x, go_on_alike L b c e x);
+      take = λ s. rw (taken_as_asked L b s, taken_as_asked L c s)
+          (refuse_alike L b c e (asking s), go_on_alike L b c e (asking s));
       run = λ steps. run_alike L steps b c e;
       settle = λ d. settle_alike L d b c e;
       log-length = λ who. (ask_alike L b c e who, used_same L b c e who);

@@ -5,7 +5,7 @@ use Rattle.bank.specs.Layout.{paper}
 use Rattle.refusals.specs.Step.{Step, asked, Asked, ask}
 use Rattle.bank.specs.Opening.{open_of, OpenPromise}
 use Rattle.refusals.specs.Promises.{Allowed}
-use Rattle.group.specs.Promises.{after, step_of, StepPromise}
+use Rattle.group.specs.Promises.{after, step_of, StepPromise, taken, TakePromise}
 use Rattle.lists.specs.Lists.{run_of, RunPromise}
 use Rattle.settler.specs.Settling.{ending, settle_of, SettlePromise}
 use Rattle.step_records.specs.Records.{flat, StepsPromise}
@@ -39,6 +39,7 @@ asks_first (suc a) (kind ∷ x ∷ y ∷ []) = []
 pub data Call : Type 0 where
   open_refused : (n mode refusal : ℕ) → (refusal ≡ 0 → ⊥) → Call
   step : (x : Asked) (refusal : ℕ) → Call
+  take : (s : Step) (refusal : ℕ) → Call
   run : (steps : List ℕ) (accepted refusal : ℕ) → Call
   run_steps : (steps : List Asked) (accepted refusal : ℕ) → Call
   settle : (budget refusal steps : ℕ) (quiet : Bool) → Call
@@ -47,6 +48,7 @@ pub data Call : Type 0 where
 abbrev pub Promised : List ℕ → Call → List ℕ → Type 0
 Promised b (open_refused n k r z) c = OpenPromise paper b n k r c
 Promised b (step x r) c = StepPromise paper b x r c
+Promised b (take s r) c = TakePromise paper b s r c
 Promised b (run steps a r) c = RunPromise paper b steps a r c
 Promised b (run_steps steps a r) c = StepsPromise b steps a r c
 Promised b (settle d r t q) c = SettlePromise paper b d r t q c
@@ -55,6 +57,7 @@ Promised b (settle d r t q) c = SettlePromise paper b d r t q c
 abbrev pub steps_of : List ℕ → Call → List Step
 steps_of b (open_refused n k r z) = []
 steps_of b (step x r) = if_accepted r (asked x)
+steps_of b (take s r) = if_accepted r (some s)
 steps_of b (run steps a r) = asks_first a steps
 steps_of b (run_steps steps a r) = asks_first a (flat steps)
 steps_of b (settle d r t q) = chosen paper t b
@@ -62,6 +65,7 @@ steps_of b (settle d r t q) = chosen paper t b
 abbrev pub count_of : Call → ℕ
 count_of (open_refused n k r z) = 0
 count_of (step x r) = cond (eqb r 0) 1 0
+count_of (take s r) = cond (eqb r 0) 1 0
 count_of (run steps a r) = a
 count_of (run_steps steps a r) = a
 count_of (settle d r t q) = t
@@ -72,6 +76,8 @@ pub record EveryAnswer (b : List ℕ) : Type 0 where
       → Promised b (open_refused n k (open_of paper b n k).refusal z) (open_of paper b n k).bank
   pub of_step : (x : Asked)
       → let a = step_of paper b x in Promised b (step x a.refusal) a.bank
+  pub of_take : (s : Step)
+      → let a = taken paper b s in Promised b (take s a.refusal) a.bank
   pub of_run : (list : List ℕ)
       → let o = run_of paper b list in Promised b (run list o.accepted o.refusal) o.bank
   pub of_records : (list : List Asked)
