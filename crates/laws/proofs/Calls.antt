@@ -23,8 +23,8 @@ use Rattle.step_records.specs.Records.{flat}
 use Rattle.laws.specs.Runs.{Run, done}
 use Rattle.laws.specs.Demand.{Reached}
 use Rattle.laws.specs.Settler.{Tells}
-use Rattle.laws.specs.Calls.{asks_for, asks_first, if_accepted, Promised, Call, open_refused, step, take, run, run_steps}
-use Rattle.laws.specs.Calls.{settle, steps_of, count_of, after_open, called, Called, EveryOpen, EveryCaller}
+use Rattle.laws.specs.Calls.{asks_for, asks_first, if_accepted, Promised, Call, open_refused, step, take, run}
+use Rattle.laws.specs.Calls.{run_steps, settle, steps_of, count_of, after_open, called, Called, EveryOpen, EveryCaller}
 use Rattle.laws.proofs.Ends.{reached_by}
 use Rattle.laws.proofs.Onward.{plain_run}
 use Rattle.laws.proofs.Telling.{settler_tells}
