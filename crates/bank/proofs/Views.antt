@@ -20,3 +20,6 @@ size_range L n e =
 
 pub views-more : (n i : ℕ) → i < n → views n i (n - i) ≡ view i ≔ all_below n ∷ views n (i + 1) (n - (i + 1))
 views-more n i l = let e : n - i ≡ suc (n - (i + 1)) = omega arith in rw (e, add-one)
+
+pub views-none : (n i : ℕ) → n ≤ i → views n i (n - i) ≡ []
+views-none n i l = let e : n - i ≡ 0 = omega arith in rw e

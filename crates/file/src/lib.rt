@@ -9,7 +9,12 @@ ghost use Rattle.file.specs.Promises.{WordPromise, FindPromise, BegunPromise};
 
 use numbers::{Asked, Kind, Refusal};
 
-// The kinds of record, by their numbers in a file.
+// The kinds of record that are no step, by their numbers in a file.
+pub const OPEN: u16 = 16;
+
+pub const SETTLE: u16 = 17;
+
+// The kinds of record.
 #[derive(Clone, Copy, Debug, PartialEq, Eq)]
 enum RecordKind {
     Step(Kind),
@@ -24,8 +29,8 @@ impl TryFrom<u16> for RecordKind {
 
     fn try_from(kind: u16) -> Result<RecordKind, Refusal> {
         match kind {
-            16 => Ok(RecordKind::Open),
-            17 => Ok(RecordKind::Settle),
+            OPEN => Ok(RecordKind::Open),
+            SETTLE => Ok(RecordKind::Settle),
             _ => Ok(RecordKind::Step(Kind::try_from(kind)?)),
         }
     }

@@ -42,9 +42,14 @@ module _ (L : Layout) where
   unfolding settle_from
   from_spent k b = refl
 
-  pub from_end : (k d : ℕ) (b : List ℕ) → k ≡ d
+  pub from_end : (k d : ℕ) (b : List ℕ) → d ≤ k
+      → settle_from L k b (d - k) ≡ ending 0 k (on_next (next L b) true (λ s. false)) b
+  from_end k d b l = let e : d - k ≡ 0 = omega arith in rw e (from_spent k b)
+
+  -- after the last turn of all
+  pub from_last : (k d : ℕ) (b : List ℕ) → k ≡ d
       → settle_from L k b (d - k) ≡ ending 0 d (on_next (next L b) true (λ s. false)) b
-  from_end k d b l = let e : d - k ≡ 0 = omega arith in rw (e, l) (from_spent d b)
+  from_last k d b e = from_end k d b (omega (arith, e)) ∙ rw e
 
   pub from_turn : (k d : ℕ) (b c : List ℕ) → k < d → Turn L b c
       → settle_from L k b (d - k) ≡ settle_from L (k + 1) c (d - (k + 1))

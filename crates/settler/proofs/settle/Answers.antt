@@ -7,7 +7,7 @@ use Rattle.numbers.proofs.OneAnswer.{ok_given, unless_passed}
 use Rattle.bank.specs.Layout.{layout}
 use Rattle.bank.proofs.Fitness.{fit_facts}
 use Rattle.settler.proofs.Taking.{quiet_none, quiet_is, turn, not_refused}
-use Rattle.settler.proofs.Endings.{from_quiet, from_turn, from_end, settle_begins}
+use Rattle.settler.proofs.Endings.{from_quiet, from_turn, from_last, settle_begins}
 use Rattle.settler.proofs.settle.Goals as goal
 
 pub loop-steps-init : goal.loop-steps-init
@@ -39,4 +39,4 @@ pub returns : goal.returns
 returns g c =
     let l = c.loop-steps in
     let quiet = quiet_is _ _ (rw c.first_step-2.ensures at c.is_none-quiet.ensures) in
-    rw quiet (sym (l.invariant.1 ∙ from_end (layout g.R.Room.room) l.steps c.args.budget l.bank (omega arith)))
+    rw quiet (sym (l.invariant.1 ∙ from_last (layout g.R.Room.room) l.steps c.args.budget l.bank (omega arith)))
