@@ -6,7 +6,7 @@ use Rattle.std.specs.Prelude.{Result, Ok, Err}
 use Rattle.numbers.specs.declared.Refusal.{Refusal}
 use Rattle.numbers.specs.Numbers.{given}
 use Rattle.numbers.proofs.OneAnswer.{one_result_by}
-use Rattle.day.specs.Answer.{tally_answered, TallyAnswer}
+use Rattle.day.specs.Answer.{tally_answered, count_answered, sum_answered, TallyAnswer}
 use Rattle.bank.specs.Layout.{Layout}
 use Rattle.day.specs.Tallies.{TallyPromise}
 use Rattle.day.specs.declared.entries.Tally.{Tally}
@@ -19,6 +19,12 @@ tally_determined L b who day e f =
 -- a fresh tally and one with an entry more are each promised by an equation with a definition's value
 pub one-tally : {t u v : Tally} → u ≡ t → v ≡ t → u ≡ v
 one-tally e f = e ∙ sym f
+
+-- what the code promises of its answer is what is promised of the answer's numbers
+pub tally_promised : (L : Layout) (b : List ℕ) (who day : ℕ) (r : Result Tally Refusal) → TallyAnswer L b who day r
+    → TallyPromise L b who day (given r) (count_answered r) (sum_answered r)
+tally_promised L b who day (Ok t) p = p
+tally_promised L b who day (Err r) p = p
 
 -- what an answer is read as tells the answer
 number_read : (r : Result Tally Refusal) → (tally_answered r).refusal ≡ given r

@@ -6,6 +6,15 @@ use Rattle.bank.specs.Layout.{Layout}
 use Rattle.day.specs.declared.entries.Tally.{Tally}
 use Rattle.day.specs.Tallies.{DayAnswer, day_answer, empty, tally_of}
 
+-- the count and the sum that are answered: 0 where the question is refused
+abbrev pub count_answered : Result Tally Refusal → ℕ
+count_answered (Ok t) = t.count
+count_answered (Err r) = 0
+
+abbrev pub sum_answered : Result Tally Refusal → ℕ
+sum_answered (Ok t) = t.sum
+sum_answered (Err r) = 0
+
 abbrev pub tally_answered : Result Tally Refusal → DayAnswer
 tally_answered (Ok t) = day_answer 0 t
 tally_answered (Err r) = day_answer (number r) empty

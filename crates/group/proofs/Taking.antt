@@ -5,9 +5,11 @@ use mathlib.Core.Bool.{Bool, true, false, cond}
 use mathlib.Core.List.{List}
 use Prim.Native.Nat.{ℕ}
 use native.Mathlib.Omega.{arith}
+use borrow.Author.Tests.{ne_eqb}
 use Rattle.bank.specs.Layout.{Layout, words}
 use Rattle.bank.specs.Fit.{fit}
 use Rattle.bank.proofs.Fitness.{fit_facts}
+use Rattle.bank.proofs.Rules.{stop}
 use Rattle.refusals.specs.Step.{Step, broadcast, send, receive, deliver, crash, detect, lose, Asked, ask}
 use Rattle.refusals.specs.Refusals.{refusal}
 use Rattle.refusals.specs.Promises.{Allowed, refusal_of, step_refusal}
@@ -42,3 +44,9 @@ taken_as_asked L b (deliver i m) = refl
 taken_as_asked L b (crash who) = refl
 taken_as_asked L b (detect i j) = refl
 taken_as_asked L b (lose from to m) = refl
+
+-- where it is refused, it leaves the bank
+pub refused_take_leaves : (L : Layout) (b : List ℕ) (s : Step) → ((taken L b s).refusal ≡ 0 → ⊥)
+    → (taken L b s).bank ≡ b
+unfolding taken
+refused_take_leaves L b s h = stop _ (ne_eqb _ 0 h) refl

@@ -10,12 +10,18 @@ use Rattle.numbers.specs.Numbers.{given}
 use Rattle.numbers.proofs.OneAnswer.{one_result_by}
 use Rattle.settler.specs.declared.Settled.{Settled}
 use Rattle.settler.specs.Settling.{Ending, SettlePromise}
-use Rattle.settler.specs.Answer.{settled_as, SettleAnswer}
+use Rattle.settler.specs.Answer.{settled_as, steps_answered, quiet_answered, SettleAnswer}
 
 pub settle_determined : (L : Layout) (b : List ℕ) (budget : ℕ) {r s j k : ℕ} {p q : Bool} {c d : List ℕ}
     → SettlePromise L b budget r j p c → SettlePromise L b budget s k q d → (r ≡ s) × (j ≡ k) × (p ≡ q) × (c ≡ d)
 settle_determined L b budget e f =
     let g = e ∙ sym f in (ap (λ o. o.refusal) g, ap (λ o. o.steps) g, ap (λ o. o.quiet) g, ap (λ o. o.bank) g)
+
+-- what the code promises of its answer is what is promised of the answer's numbers
+pub settle_promised : (L : Layout) (b : List ℕ) (budget : ℕ) (r : Result Settled Refusal) (c : List ℕ)
+    → SettleAnswer L b budget r c → SettlePromise L b budget (given r) (steps_answered r) (quiet_answered r) c
+settle_promised L b budget (Ok s) c p = p
+settle_promised L b budget (Err r) c p = p
 
 -- what an answer is read as tells the answer
 ended_number : (r : Result Settled Refusal) (b : List ℕ) → (settled_as r b).refusal ≡ given r
