@@ -1,6 +1,6 @@
 -- Over the days of a season the tallies of a log add up to the log: each entry has one day.
 use Prim.Native.Nat.{ℕ, ◌+◌, ◌*◌, ◌≤◌, ◌<◌, min}
-use mathlib.Core.Path.{◌≡◌, ap, ap₂, ◌∙◌}
+use mathlib.Core.Path.{◌≡◌, refl, ap, ap₂, ◌∙◌}
 use mathlib.Core.Bool.{Bool, true, false, cond}
 use mathlib.Core.List.{List, [], ◌∷◌}
 use native.Mathlib.Omega.{arith}
@@ -8,9 +8,10 @@ use lib.Dec.{eqb}
 use lib.ListN.{length, drop, length-drop}
 use lib.Seq.{length-take-le}
 use Rattle.bank.specs.Place.{Place, Words, log, message, stamp, value}
-use Rattle.bank.specs.Layout.{paper, address, words}
+use Rattle.bank.specs.Layout.{Layout, layout, address, words}
+use Rattle.bank.proofs.Rooms.{short}
 use Rattle.lists.specs.Logs.{log_refusal, used_length, log_of}
-use Rattle.lists.proofs.Asking.{log-asked, whole_length}
+use Rattle.lists.proofs.Asking.{log-asked, log_ends, whole_length}
 use Rattle.day.specs.Days.{day_of, last_day}
 use Rattle.day.specs.Tallies.{tallied, add_entry, add_all, tally_refusal, tally_of}
 use Rattle.day.specs.Season.{sum_over, season, AreWords, SeasonAddsUp}
@@ -78,40 +79,46 @@ season_takes w small ms f g e =
     ∙ sum_swap (λ d m. taken d (w (message m stamp)) (f m)) season ms
     ∙ sum_same _ f (λ m. counted-once (w (message m stamp)) (f m) (small (message m stamp))) ms
 
--- a log of the paper's bank is as long as it says, and no longer than there are messages
-pub log-whole : (b : List ℕ) (who : ℕ) → log_refusal paper b who ≡ 0
-    → (length (log_of paper b who) ≡ used_length paper b who) × (length (log_of paper b who) ≤ paper.messages)
-log-whole b who e =
-    let a = log-asked paper b who e in
-    let n = whole_length paper b who e in
-    let r : used_length paper b who ≤ length (drop (address paper (log who 0)) b) = rw length-drop (omega arith) in
-    let l = length-take-le (used_length paper b who) (drop (address paper (log who 0)) b) r in
-    (l, omega arith)
+module _ (L : Layout) where
+  -- a log is as long as it says, and no longer than there are messages
+  pub log-whole : (b : List ℕ) (who : ℕ) → log_refusal L b who ≡ 0
+      → (length (log_of L b who) ≡ used_length L b who) × (length (log_of L b who) ≤ L.messages)
+  log-whole b who e =
+      let a = log-asked L b who e in
+      let ends = log_ends L b who _ e refl in
+      let r : used_length L b who ≤ length (drop (address L (log who 0)) b) = rw length-drop (omega (arith, ends)) in
+      let l = length-take-le (used_length L b who) (drop (address L (log who 0)) b) r in
+      (l, omega (arith, l, whole_length L b who e, a.short, a.sound.given))
 
-module _ (b : List ℕ) (who day : ℕ) (small : AreWords b) (e : tally_refusal paper b who day ≡ 0) where
   -- the two words are far from their ends: a log has at most 32 entries
-  day_sums : (d : ℕ) → d ≤ last_day
-      → let w = words paper b in
-      (tally_of paper b who d).tally
-      ≡ tallied (over w (λ m. 1) d (log_of paper b who)) (over w (value_of w) d (log_of paper b who))
-  day_sums d h =
-      let l = (log-whole b who (log-free paper b who day e)).1 in
-      ap (λ a. a.tally) (tally-whole paper b who d (every_day paper b who day e d h))
-      ∙ tally_sums (words paper b) (λ p. small (address paper p)) d 0 0 (log_of paper b who) (omega arith) (omega arith)
-      ∙ ap₂ tallied (omega arith) (omega arith)
+  module _ (b : List ℕ) (who day : ℕ) (few : L.messages ≤ 32) (small : AreWords b)
+      (e : tally_refusal L b who day ≡ 0) where
+    day_sums : (d : ℕ) → d ≤ last_day
+        → let w = words L b in
+        (tally_of L b who d).tally
+        ≡ tallied (over w (λ m. 1) d (log_of L b who)) (over w (value_of w) d (log_of L b who))
+    day_sums d h =
+        let l = (log-whole b who (log-free L b who day e)).1 in
+        ap (λ a. a.tally) (tally-whole L b who d (every_day L b who day e d h))
+        ∙ tally_sums (words L b) (λ p. small (address L p)) d 0 0 (log_of L b who)
+        (omega (arith, l, few))
+        (omega (arith, l, few))
+        ∙ ap₂ tallied (omega arith) (omega arith)
 
-  season_of : (f g : ℕ → ℕ) → ((d : ℕ) → d ≤ last_day → g d ≡ over (words paper b) f d (log_of paper b who))
-      → sum_over g season ≡ sum_over f (log_of paper b who)
-  season_of f g q = season_takes (words paper b) (λ p. small (address paper p)) (log_of paper b who) f g q
+    season_of : (f g : ℕ → ℕ) → ((d : ℕ) → d ≤ last_day → g d ≡ over (words L b) f d (log_of L b who))
+        → sum_over g season ≡ sum_over f (log_of L b who)
+    season_of f g q = season_takes (words L b) (λ p. small (address L p)) (log_of L b who) f g q
 
-  season-counts : sum_over (λ d. (tally_of paper b who d).tally.count) season ≡ used_length paper b who
-  season-counts =
-      season_of (λ m. 1) _ (λ d h. ap (λ t. t.count) (day_sums d h))
-      ∙ sum_ones (log_of paper b who)
-      ∙ (log-whole b who (log-free paper b who day e)).0
+    season-counts : sum_over (λ d. (tally_of L b who d).tally.count) season ≡ used_length L b who
+    season-counts =
+        season_of (λ m. 1) _ (λ d h. ap (λ t. t.count) (day_sums d h))
+        ∙ sum_ones (log_of L b who)
+        ∙ (log-whole b who (log-free L b who day e)).0
+
+    season-sums : sum_over (λ d. (tally_of L b who d).tally.sum) season ≡ sum_over (value_of (words L b)) (log_of L b who)
+    season-sums = season_of (value_of (words L b)) _ (λ d h. ap (λ t. t.sum) (day_sums d h))
 
 pub season_adds_up : SeasonAddsUp
-season_adds_up b who day small e = (
-  season-counts b who day small e,
-  season_of b who day small e (value_of (words paper b)) _ (λ d h. ap (λ t. t.sum) (day_sums b who day small e d h)),
-)
+season_adds_up room b who day small e =
+    let L = layout room in
+    (season-counts L b who day (short room) small e, season-sums L b who day (short room) small e)

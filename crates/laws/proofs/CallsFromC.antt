@@ -94,8 +94,8 @@ module _ {n k : ℕ} {before : List Step} (bytes : List ℕ) (w : Whole bytes)
   record Below (x : CCall) (new : List ℕ) : Type 0 where
     whole : Whole new
     call : Words.Call
-    promised : Words.Promised (words_of bytes) call (words_of new)
-    steps : Words.steps_of (words_of bytes) call ≡ steps_of_c bytes x
+    promised : Words.Promised paper (words_of bytes) call (words_of new)
+    steps : Words.steps_of paper (words_of bytes) call ≡ steps_of_c bytes x
     counted : Words.count_of call ≡ count_of_c x
 
   below : (x : CCall) (new : List ℕ) → PromisedToC bytes x new → Below x new
@@ -137,15 +137,15 @@ flag_back q false e = ne_eqb q 1 (λ f. omega arith)
 -- ---- any calls
 
 called-below : (n k : ℕ) {before : List Step} {bytes : List ℕ} → CalledFromC n k before bytes
-    → Whole bytes × Called n k before (words_of bytes)
+    → Whole bytes × Called paper n k before (words_of bytes)
 called-below n k (after_open {b = new} (bytes, o)) =
     let l = open_left bytes n k o in
     (whole_stored l refl, after_open (words_of bytes, λ i. answer (sym (answered l refl) i) (handed_on l refl i)))
 called-below n k (called {before = before} {b = bytes} {c = new} x d p) =
     let (w, c) = called-below n k d in
-    let y = below bytes w (every_caller n k _ _ c).relies.reached x new p in (
+    let y = below bytes w (every_caller paper n k _ _ c).relies.reached x new p in (
       y.whole,
-      subst (λ es. Called n k (before ++ es) (words_of new)) y.steps (called y.call c y.promised),
+      subst (λ es. Called paper n k (before ++ es) (words_of new)) y.steps (called y.call c y.promised),
     )
 
 pub every_open_from_c : EveryOpenFromC
@@ -156,7 +156,7 @@ pub every-c_caller : EveryCCaller
 unfolding Whole
 every-c_caller n k before bytes h =
     let (w, c) = called-below n k h in
-    let rely = every_caller n k before (words_of bytes) c in
+    let rely = every_caller paper n k before (words_of bytes) c in
     let relies = rely.relies in
     record {
       whole = w;

@@ -6,12 +6,13 @@ use Prim.Native.Nat.{ℕ, ◌≤◌}
 use native.Mathlib.Omega.{arith}
 use lib.ListN.{length}
 use Rattle.bank.specs.Place.{N, count}
-use Rattle.bank.specs.Layout.{Layout, paper, words}
+use Rattle.bank.specs.Layout.{Layout, paper, layout, words}
 use Rattle.bank.specs.Fit.{Fit, fit}
 use Rattle.refusals.specs.Step.{Step}
 use Rattle.refusals.specs.Promises.{Allowed}
 use Rattle.group.specs.Promises.{after}
 use Rattle.bank.proofs.Fitness.{fit_facts}
+use Rattle.bank.proofs.Rooms.{few, short}
 use Rattle.settler.specs.Settling.{Ending, settle_of, SettlePromise}
 use Rattle.settler.proofs.Endings.{settle_unfit}
 use Rattle.loargwen.specs.Bytes.{words_of}
@@ -41,27 +42,34 @@ module _ (L : Layout) (b : List ℕ) where
   quiet-within : Fit L b → (d : ℕ) → bound ≤ d → (settle_of L b d).quiet ≡ true
   quiet-within f d l = settler_ends L (settler_run L d b f) (omega (arith, within_bound))
 
--- ---- at the paper's size
+-- ---- at either size
 
-full : (b : List ℕ) → Fit paper b → bound paper b ≤ 41712
-full b f = omega (arith, any_full_bank, any-rises f.few f.given)
+module _ (room : Bool) where
+  abbrev sized : Layout
+  sized = layout room
 
-full_enough : (b : List ℕ) → Fit paper b → (d : ℕ) → 41712 ≤ d → (settle_of paper b d).quiet ≡ true
-full_enough b f d l = quiet-within paper b f d (omega (arith, full b f))
+  full : (b : List ℕ) → Fit sized b → bound sized b ≤ 41712
+  full b f =
+      let n : words sized b N ≤ 16 = omega (arith, f.few, few room) in
+      let c : words sized b count ≤ 32 = omega (arith, f.given, short room) in
+      omega (arith, any_full_bank, any-rises n c)
 
-answered_fit : (b : List ℕ) (d : ℕ) → (settle_of paper b d).refusal ≡ 0 → Fit paper b
-answered_fit b d e =
-    fit_facts paper b
-    (is_true (fit paper b) (λ u. omega (arith, ap (λ (o : Ending). o.refusal) (settle_unfit paper b d u))))
+  full_enough : (b : List ℕ) → Fit sized b → (d : ℕ) → 41712 ≤ d → (settle_of sized b d).quiet ≡ true
+  full_enough b f d l = quiet-within sized b f d (omega (arith, full b f))
 
-one_call : (b b' : List ℕ) (r k : ℕ) (q : Bool) → SettlePromise paper b 65535 r k q b'
-    → r ≡ 0 → (k ≤ 41712) × (q ≡ true)
-one_call b b' r k q p z =
-    let f = answered_fit b 65535 (sym (ap (λ (o : Ending). o.refusal) p) ∙ z) in
-    let h = settler_run paper 65535 b f in (
-      omega (arith, ap (λ (o : Ending). o.steps) p, h.counted, steps-within paper b h.run, full b f),
-      ap (λ (o : Ending). o.quiet) p ∙ full_enough b f 65535 (omega arith),
-    )
+  answered_fit : (b : List ℕ) (d : ℕ) → (settle_of sized b d).refusal ≡ 0 → Fit sized b
+  answered_fit b d e =
+      fit_facts sized b
+      (is_true (fit sized b) (λ u. omega (arith, ap (λ (o : Ending). o.refusal) (settle_unfit sized b d u))))
+
+  one_call : (b b' : List ℕ) (r k : ℕ) (q : Bool) → SettlePromise sized b 65535 r k q b'
+      → r ≡ 0 → (k ≤ 41712) × (q ≡ true)
+  one_call b b' r k q p z =
+      let f = answered_fit b 65535 (sym (ap (λ (o : Ending). o.refusal) p) ∙ z) in
+      let h = settler_run sized 65535 b f in (
+        omega (arith, ap (λ (o : Ending). o.steps) p, h.counted, steps-within sized b h.run, full b f),
+        ap (λ (o : Ending). o.quiet) p ∙ full_enough b f 65535 (omega arith),
+      )
 
 -- on bytes an answer of 0 is that of a bank's, with 1 for quiet
 one-c_call : (bytes new : List ℕ) (r k q : ℕ) → SettleBytes bytes 65535 r k q new
@@ -79,7 +87,7 @@ one-c_call bytes new r k q p z = go (is_bank bytes) p
         → (k ≤ 41712) × (q ≡ 1)
     go true e =
         let (few, quiet) =
-        one_call (words_of bytes) due.bank due.refusal due.steps due.quiet refl
+        one_call false (words_of bytes) due.bank due.refusal due.steps due.quiet refl
         (sym (ap (λ o. o.refusal) e) ∙ z) in
         (omega (arith, ap (λ o. o.steps) e, few), ap (λ o. o.quiet) e ∙ ap flag quiet)
     go false e = absurd (omega (arith, ap (λ o. o.refusal) e))
@@ -91,7 +99,7 @@ always_ends =
       enough = quiet-within;
       rises = λ n n' c c' l k. any-rises l k;
       fullest = any_full_bank;
-      u16_always_enough = λ b f. full_enough b f _ (omega arith);
+      u16_always_enough = λ room b f. full_enough room b f _ (omega arith);
       one_call = one_call;
       one-c_call = one-c_call;
     }

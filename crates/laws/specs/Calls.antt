@@ -1,7 +1,8 @@
--- What a program may call once a group is open, which steps its answers tell of, and what it may then rely on.
+-- What a program may call once a group is open, which steps its answers tell of, and what it may then rely on: in a bank
+-- of either size, and of any other layout.
 use Rattle.std.specs.Prelude.{ℕ, zero, suc, ◌≡◌, Bool, cond, List, [], ◌∷◌, ◌++◌, eqb, length}
 use Rattle.std.proofs.Math.Option.{Option, none, some}
-use Rattle.bank.specs.Layout.{paper}
+use Rattle.bank.specs.Layout.{Layout, paper}
 use Rattle.refusals.specs.Step.{Step, asked, Asked, ask}
 use Rattle.bank.specs.Opening.{open_of, OpenPromise}
 use Rattle.refusals.specs.Promises.{Allowed}
@@ -45,22 +46,27 @@ pub data Call : Type 0 where
   settle : (budget refusal steps : ℕ) (quiet : Bool) → Call
 
 -- what the call promises of the bank before it and the bank after it
-abbrev pub Promised : List ℕ → Call → List ℕ → Type 0
-Promised b (open_refused n k r z) c = OpenPromise paper b n k r c
-Promised b (step x r) c = StepPromise paper b x r c
-Promised b (take s r) c = TakePromise paper b s r c
-Promised b (run steps a r) c = RunPromise paper b steps a r c
-Promised b (run_steps steps a r) c = StepsPromise b steps a r c
-Promised b (settle d r t q) c = SettlePromise paper b d r t q c
+abbrev pub Promised : Layout → List ℕ → Call → List ℕ → Type 0
+Promised L b (open_refused n k r z) c = OpenPromise L b n k r c
+Promised L b (step x r) c = StepPromise L b x r c
+Promised L b (take s r) c = TakePromise L b s r c
+Promised L b (run steps a r) c = RunPromise L b steps a r c
+Promised L b (run_steps steps a r) c = RunPromise L b (flat steps) a r c
+Promised L b (settle d r t q) c = SettlePromise L b d r t q c
+
+-- step records are for the paper's bank alone, where that is what the call promises
+abbrev pub RecordsPromised : Type 0
+RecordsPromised = (b : List ℕ) (steps : List Asked) (a r : ℕ) (c : List ℕ) → StepsPromise b steps a r c
+    → Promised paper b (run_steps steps a r) c
 
 -- the steps that it took, and how many its answer counts; a settling's are the settler's own first so many
-abbrev pub steps_of : List ℕ → Call → List Step
-steps_of b (open_refused n k r z) = []
-steps_of b (step x r) = if_accepted r (asked x)
-steps_of b (take s r) = if_accepted r (some s)
-steps_of b (run steps a r) = asks_first a steps
-steps_of b (run_steps steps a r) = asks_first a (flat steps)
-steps_of b (settle d r t q) = chosen paper t b
+abbrev pub steps_of : Layout → List ℕ → Call → List Step
+steps_of L b (open_refused n k r z) = []
+steps_of L b (step x r) = if_accepted r (asked x)
+steps_of L b (take s r) = if_accepted r (some s)
+steps_of L b (run steps a r) = asks_first a steps
+steps_of L b (run_steps steps a r) = asks_first a (flat steps)
+steps_of L b (settle d r t q) = chosen L t b
 
 abbrev pub count_of : Call → ℕ
 count_of (open_refused n k r z) = 0
@@ -71,19 +77,19 @@ count_of (run_steps steps a r) = a
 count_of (settle d r t q) = t
 
 -- none is left out: whatever is asked of this bank, the answer and the bank that the definitions give are promised
-pub record EveryAnswer (b : List ℕ) : Type 0 where
-  pub of_open : (n k : ℕ) (z : (open_of paper b n k).refusal ≡ 0 → ⊥)
-      → Promised b (open_refused n k (open_of paper b n k).refusal z) (open_of paper b n k).bank
+pub record EveryAnswer (L : Layout) (b : List ℕ) : Type 0 where
+  pub of_open : (n k : ℕ) (z : (open_of L b n k).refusal ≡ 0 → ⊥)
+      → Promised L b (open_refused n k (open_of L b n k).refusal z) (open_of L b n k).bank
   pub of_step : (x : Asked)
-      → let a = step_of paper b x in Promised b (step x a.refusal) a.bank
+      → let a = step_of L b x in Promised L b (step x a.refusal) a.bank
   pub of_take : (s : Step)
-      → let a = taken paper b s in Promised b (take s a.refusal) a.bank
+      → let a = taken L b s in Promised L b (take s a.refusal) a.bank
   pub of_run : (list : List ℕ)
-      → let o = run_of paper b list in Promised b (run list o.accepted o.refusal) o.bank
+      → let o = run_of L b list in Promised L b (run list o.accepted o.refusal) o.bank
   pub of_records : (list : List Asked)
-      → let o = run_of paper b (flat list) in Promised b (run_steps list o.accepted o.refusal) o.bank
+      → let o = run_of L b (flat list) in Promised L b (run_steps list o.accepted o.refusal) o.bank
   pub of_settle : (d : ℕ)
-      → let e = settle_of paper b d in Promised b (settle d e.refusal e.steps e.quiet) e.bank
+      → let e = settle_of L b d in Promised L b (settle d e.refusal e.steps e.quiet) e.bank
 
 -- ---- any calls, one after another
 
@@ -94,29 +100,31 @@ pub data Calls {C : Type 0} (Opened : List ℕ → Type 0) (Promised : List ℕ 
   called : {before : List Step} {b c : List ℕ} (x : C) → Calls Opened Promised steps_of before b → Promised b x c
       → Calls Opened Promised steps_of (before ++ steps_of b x) c
 
-abbrev pub Called : ℕ → ℕ → List Step → List ℕ → Type 0
-Called n k = Calls (λ c. (b : List ℕ) × OpenPromise paper b n k 0 c) Promised steps_of
+abbrev pub Called : Layout → ℕ → ℕ → List Step → List ℕ → Type 0
+Called L n k = Calls (λ c. (b : List ℕ) × OpenPromise L b n k 0 c) (Promised L) (steps_of L)
 
 -- no open is left out: whatever the memory held, one that answers 0 begins such calls
 abbrev pub EveryOpen : Type 0
-EveryOpen = (b : List ℕ) (n k : ℕ) → (open_of paper b n k).refusal ≡ 0 → Called n k [] (open_of paper b n k).bank
+EveryOpen = (L : Layout) (b : List ℕ) (n k : ℕ) → (open_of L b n k).refusal ≡ 0
+    → Called L n k [] (open_of L b n k).bank
 
 -- ---- what whoever calls may rely on
 
 -- the steps that the answers tell of were accepted, in that order, and led to this bank: demand 3 is had of it
-pub record Relies (n k : ℕ) (before : List Step) (b : List ℕ) : Type 0 where
-  pub reached : Reached paper n k before b
-  pub demand : Demand3 paper n k before b
+pub record Relies (L : Layout) (n k : ℕ) (before : List Step) (b : List ℕ) : Type 0 where
+  pub reached : Reached L n k before b
+  pub demand : Demand3 L n k before b
 
 -- whatever was called and answered, and whatever is called next: the next call leads from this bank to its own by its
 -- steps, as many as its answer counts, and a settling's answer tells what is left and how every order ends
-pub record CallersRely (n k : ℕ) (before : List Step) (b : List ℕ) : Type 0 where
-  pub relies : Relies n k before b
-  pub every-answer : EveryAnswer b
-  pub leads : (x : Call) (c : List ℕ) → Promised b x c → Run (Allowed paper) (after paper) b (steps_of b x) c
-  pub counts : (x : Call) (c : List ℕ) → Promised b x c → length (steps_of b x) ≡ count_of x
-  pub settling : (d r t : ℕ) (q : Bool) (c : List ℕ) → SettlePromise paper b d r t q c
-      → Tells paper b d (ending r t q c)
+pub record CallersRely (L : Layout) (n k : ℕ) (before : List Step) (b : List ℕ) : Type 0 where
+  pub relies : Relies L n k before b
+  pub every-answer : EveryAnswer L b
+  pub leads : (x : Call) (c : List ℕ) → Promised L b x c → Run (Allowed L) (after L) b (steps_of L b x) c
+  pub counts : (x : Call) (c : List ℕ) → Promised L b x c → length (steps_of L b x) ≡ count_of x
+  pub settling : (d r t : ℕ) (q : Bool) (c : List ℕ) → SettlePromise L b d r t q c
+      → Tells L b d (ending r t q c)
 
 abbrev pub EveryCaller : Type 0
-EveryCaller = (n k : ℕ) (before : List Step) (b : List ℕ) → Called n k before b → CallersRely n k before b
+EveryCaller = (L : Layout) (n k : ℕ) (before : List Step) (b : List ℕ) → Called L n k before b
+    → CallersRely L n k before b

@@ -59,7 +59,7 @@ EveryOpenFromC = (bytes : List ℕ) (n k : ℕ)
 -- called next leads from it by its steps, as many as its answer counts, and a settling's tells what is left
 pub record CCallersRely (n k : ℕ) (before : List Step) (bytes : List ℕ) : Type 0 where
   pub whole : bytes ≡ bytes_of (words_of bytes)
-  pub relies : Relies n k before (words_of bytes)
+  pub relies : Relies paper n k before (words_of bytes)
   pub every-answer : EveryAnswerToC bytes
   pub leads : (x : CCall) (new : List ℕ) → PromisedToC bytes x new
       → Run (Allowed paper) (after paper) (words_of bytes) (steps_of_c bytes x) (words_of new)

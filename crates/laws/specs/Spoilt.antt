@@ -1,7 +1,7 @@
 -- Settling ends on every fit bank, spoilt ones too: those with sets or logs that no opened group comes to.
 use Rattle.std.specs.Prelude.{ℕ, ◌≤◌, ◌≡◌, Bool, true, List, length}
 use Rattle.bank.specs.Place.{N, count}
-use Rattle.bank.specs.Layout.{Layout, paper, words}
+use Rattle.bank.specs.Layout.{Layout, layout, words}
 use Rattle.bank.specs.Fit.{Fit}
 use Rattle.refusals.specs.Step.{Step}
 use Rattle.refusals.specs.Promises.{Allowed}
@@ -20,10 +20,11 @@ pub record AlwaysEnds : Type 0 where
   -- fewer controllers or messages never make it more; for 16 and 32 it is 41,712
   pub rises : (n n' c c' : ℕ) → n ≤ n' → c ≤ c' → most_of_any n c ≤ most_of_any n' c'
   pub fullest : most_of_any 16 32 ≡ 41712
-  -- so the largest u16 is budget enough for every bank of the paper's size
-  pub u16_always_enough : (b : List ℕ) → Fit paper b → (settle_of paper b 65535).quiet ≡ true
+  -- so the largest u16 is budget enough for every bank of either size
+  pub u16_always_enough : (room : Bool) (b : List ℕ) → Fit (layout room) b
+      → (settle_of (layout room) b 65535).quiet ≡ true
   -- as a caller sees it: a settle with that budget that answers 0 has taken at most 41,712 steps, and none is left
-  pub one_call : (b b' : List ℕ) (r k : ℕ) (q : Bool) → SettlePromise paper b 65535 r k q b'
+  pub one_call : (room : Bool) (b b' : List ℕ) (r k : ℕ) (q : Bool) → SettlePromise (layout room) b 65535 r k q b'
       → r ≡ 0 → (k ≤ 41712) × (q ≡ true)
   -- and the same from C, where quiet is 1
   pub one-c_call : (bytes new : List ℕ) (r k q : ℕ) → SettleBytes bytes 65535 r k q new
