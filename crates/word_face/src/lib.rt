@@ -59,11 +59,14 @@ pub extern "C" fn words_log(bank: &[u16], who: u16, out: &mut [u16]) -> usize
     log.len()
 }
 
-// The words of the one in the other from its start on, as far as it reaches.
+// The words of the one in the other from its start on, as far as it reaches. One by one: copy_from_slice would have the
+// archive need a memmove from outside.
 #[tactic(auto, using(crate::proofs::Copying::front_copied))]
 fn copy(from: &[u16], to: &mut [u16])
     ensures { Copied from.now to.old to.new }
 {
     let n = from.len().min(to.len());
-    to[..n].copy_from_slice(&from[..n]);
+    for k in 0..n {
+        to[k] = from[k];
+    }
 }
