@@ -20,6 +20,7 @@ pub fn of_step<R: Room>(bank: &[u16], step: Step) -> Result<(), Refusal>
 }
 
 // The step that is asked for where it is allowed, or what refuses it.
+#[inline(always)]
 #[tactic(auto, unfolding(crate::specs::Promises::refusal_of))]
 pub fn allowed<R: Room>(bank: &[u16], asked: Asked) -> Result<Step, Refusal>
     ensures refused { RefusalPromise (layout R.room) bank.now asked (given result) }
