@@ -115,7 +115,8 @@ module _ (L : Layout) where
         ∙ sum_ones (log_of L b who)
         ∙ (log-whole b who (log-free L b who day e)).0
 
-    season-sums : sum_over (λ d. (tally_of L b who d).tally.sum) season ≡ sum_over (value_of (words L b)) (log_of L b who)
+    season-sums : sum_over (λ d. (tally_of L b who d).tally.sum) season
+        ≡ sum_over (value_of (words L b)) (log_of L b who)
     season-sums = season_of (value_of (words L b)) _ (λ d h. ap (λ t. t.sum) (day_sums d h))
 
 pub season_adds_up : SeasonAddsUp

@@ -1,5 +1,5 @@
--- What a program may call once a group is open, which steps its answers tell of, and what it may then rely on: in a bank
--- of either size, and of any other layout.
+-- What a program may call once a group is open, which steps its answers tell of, and what it may then rely on, in a
+-- bank of either size, and of any layout.
 use Rattle.std.specs.Prelude.{ℕ, zero, suc, ◌≡◌, Bool, cond, List, [], ◌∷◌, ◌++◌, eqb, length}
 use Rattle.std.proofs.Math.Option.{Option, none, some}
 use Rattle.bank.specs.Layout.{Layout, paper}
