@@ -19,23 +19,24 @@ pub fn of_step<R: Room>(bank: &[u16], step: Step) -> Result<(), Refusal>
     of_fit::<R>(bank, step)
 }
 
-// The step that is asked for where it is allowed, or what refuses it.
-#[inline(always)]
+// Whether the step that is asked for is allowed, or what refuses it.
+#[tactic(auto, unfolding(crate::specs::Promises::refusal_of))]
+pub fn refusal<R: Room>(bank: &[u16], asked: Asked) -> Result<(), Refusal>
+    ensures { RefusalPromise (layout R.room) bank.now asked (given result) }
+{
+    Refusal::Unfit.unless(bank::fit::<R>(bank))?;
+    let step = Step::try_from(asked)?;
+    of_fit::<R>(bank, step)?;
+    Ok(())
+}
+
+// The step that is asked for where it is allowed, or what refuses it. It is made anew, since a step that `refusal` gave
+// back would go through memory.
 #[tactic(auto, unfolding(crate::specs::Promises::refusal_of))]
 pub fn allowed<R: Room>(bank: &[u16], asked: Asked) -> Result<Step, Refusal>
     ensures refused { RefusalPromise (layout R.room) bank.now asked (given result) }
     ensures step { IsAsked asked result }
 {
-    Refusal::Unfit.unless(bank::fit::<R>(bank))?;
-    let step = Step::try_from(asked)?;
-    of_fit::<R>(bank, step)?;
-    Ok(step)
-}
-
-// Whether the step that is asked for is allowed, or what refuses it.
-pub fn refusal<R: Room>(bank: &[u16], asked: Asked) -> Result<(), Refusal>
-    ensures { RefusalPromise (layout R.room) bank.now asked (given result) }
-{
-    allowed::<R>(bank, asked)?;
-    Ok(())
+    refusal::<R>(bank, asked)?;
+    Step::try_from(asked)
 }

@@ -25,7 +25,6 @@ fn enough(mode: u16, n: u16, trusted: u16, received: u16) -> bool
 }
 
 // Whether controller i has heard enough of message m.
-#[inline(always)]
 fn may_deliver<R: Room>(bank: &[u16], i: u16, m: u16) -> bool
     ensures { result ≡ may_deliver (words (layout R.room) bank.now) i m }
 {
@@ -43,7 +42,6 @@ fn undelivered(delivered: u16, i: u16, length: u16, count: u16) -> Result<(), Re
 }
 
 // What refuses a delivery in a fit bank.
-#[inline(always)]
 pub fn delivery_refusal<R: Room>(bank: &[u16], i: u16, m: u16) -> Result<(), Refusal>
     ensures { given result ≡ first_broken (deliver_rules (words (layout R.room) bank.now) i m) }
 {

@@ -65,9 +65,7 @@ fn of_lose<R: Room>(bank: &[u16], from: u16, to: u16, m: u16) -> Result<(), Refu
     Refusal::NotYet.unless(!(sets::has(up, from) && sets::has(up, to)))
 }
 
-// What refuses a step of a fit bank. A match, and no table of functions: each kind has numbers of its own. Inlined, as
-// `allowed` is and what of_fit asks of a delivery, so that no step is handed over in memory.
-#[inline(always)]
+// What refuses a step of a fit bank. A match, and no table of functions: each kind has numbers of its own.
 pub(crate) fn of_fit<R: Room>(bank: &[u16], step: Step) -> Result<(), Refusal>
     ensures { given result ≡ Refusals.refusal (layout R.room) (words (layout R.room) bank.now) (meant step) }
 {
